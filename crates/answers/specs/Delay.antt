@@ -6,7 +6,7 @@ use Rattle.net.specs.declared.Weighing.{Weighing}
 use Rattle.net.specs.Pins.{pin_places, pin_entries}
 use Rattle.checks.specs.Check.{checked}
 use Rattle.floats.specs.declared.Technology.{Technology}
-use Rattle.floats.specs.declared.Delay.{Delay}
+use Rattle.floats.specs.Mark.{Delay}
 use Rattle.delay.specs.Load.{load_of}
 use Rattle.delay.specs.Answer.{marks_of, delay_answer}
 use Rattle.answers.specs.Refined.{laid_of}

@@ -22,10 +22,11 @@ pub struct Band {
 }
 
 // Whether the list is not of whole pairs, or has no band.
+#[tactic(auto, unfolding(crate::specs::Tests::bands_miscounted))]
 pub fn bands_miscounted(bands: &[u64]) -> bool
     ensures { result ≡ bands_miscounted bands.now }
 {
-    (bands.len() % 2 != 0) | (bands.len() / 2 == 0)
+    bands.len() % 2 != 0 || bands.len() / 2 == 0
 }
 
 // The i-th band of a flat list.
@@ -40,6 +41,7 @@ pub fn band_at(bands: &[u64], i: usize) -> Band
     }
 }
 
+#[tactic(auto, unfolding(crate::specs::Tests::rate_above))]
 fn is_rate_above(band: Band) -> bool
     ensures { result ≡ rate_above band }
 {
@@ -50,35 +52,30 @@ fn is_rate_above(band: Band) -> bool
 pub fn any_rate_above(bands: &[u64]) -> bool
     ensures { result ≡ any rate_above (bands_of bands.now) }
 {
-    let k = bands.len() / 2;
-    let mut i = 0;
-    while i < k {
+    for i in 0..bands.len() / 2 {
         if is_rate_above(band_at(bands, i)) {
             return true;
         }
-        i += 1;
     }
     false
 }
 
 // Whether a band falls back from the one before it: its limit is not above, or its rate is below.
+#[tactic(auto, unfolding(crate::specs::Order::steps_back))]
 fn is_step_back(before: Band, band: Band) -> bool
     ensures { result ≡ steps_back before band }
 {
-    !(before.limit < band.limit) | (band.rate < before.rate)
+    before.limit >= band.limit || band.rate < before.rate
 }
 
 // Whether the list falls back at any band, used or not.
 pub fn any_step_back(bands: &[u64]) -> bool
     ensures { result ≡ falls_back (bands_of bands.now) }
 {
-    let k = bands.len() / 2;
-    let mut i = 0;
-    while i + 1 < k {
+    for i in 0..(bands.len() / 2).saturating_sub(1) {
         if is_step_back(band_at(bands, i), band_at(bands, i + 1)) {
             return true;
         }
-        i += 1;
     }
     false
 }

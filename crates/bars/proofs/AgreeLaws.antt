@@ -2,9 +2,9 @@
 -- What saves nothing may be passed over, and so may a bar that could not beat the best even if it moved as far as its shortest edge.
 -- Assumes nothing.
 use mathlib.Core.Path.{◌≡◌, refl, sym, ap, ap₂, ◌∙◌}
-use mathlib.Core.Bool.{Bool, true, false, not}
+use mathlib.Core.Bool.{Bool, true, false}
 use mathlib.Core.List.{List, [], ◌∷◌}
-use Prim.Native.Nat.{ℕ, zero, ◌≤◌, ◌<◌}
+use Prim.Native.Nat.{ℕ, ◌≤◌, ◌<◌}
 use native.Mathlib.Omega.{arith}
 use native.Mathlib.Nat.{mul-le-mul_right}
 use borrow.Author.Tests.{eqb-true, eqb-false, ltb-true, ltb-false, le-ltb}
@@ -23,7 +23,7 @@ use Rattle.reach.specs.declared.Size.{Size}
 use Rattle.turned.specs.Turned.{View}
 use Rattle.hanging.specs.Hanging.{hang}
 use Rattle.moves.specs.Moving.{held}
-use Rattle.bars.specs.Offers.{move, move_by, rate_of, best, reach_of, taken, offered}
+use Rattle.bars.specs.Offers.{move_by, rate_of, reach_of, taken, offered}
 use Rattle.moves.proofs.MovingLaws.{better-more}
 
 pub record Agrees (b c : Move) : Type 0 where

@@ -48,7 +48,7 @@ use Rattle.bars.specs.Offers.{best, move_by, reach_of, taken, offered, offered_b
 use Rattle.moves.specs.Moving.{seats_of}
 use Rattle.reach.proofs.CodeLaws.{reach-less}
 use Rattle.labels.proofs.LabelLaws.{level_pairs, Labelled, labelled-is, set_below}
-use Rattle.bars.proofs.OnLaws.{seat-is, of-pairs, level-at, on-is, sees, level-opposite, on-opposite}
+use Rattle.bars.proofs.OnLaws.{seat-is, of-pairs, level-at, on-is, level-opposite, on-opposite}
 use Rattle.reach.proofs.ExemptLaws.{any-run}
 use Rattle.bars.proofs.AgreeLaws.{Agrees}
 use Rattle.bars.proofs.MoveLaws.{not_after, Stood, Ready}

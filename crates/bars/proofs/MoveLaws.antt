@@ -26,7 +26,7 @@ use Rattle.slide.specs.declared.Side.{Side}
 use Rattle.slide.specs.declared.Side.TheVariants.{Above, Below, Right, Left}
 use Rattle.slide.specs.Side.{horizontal, weight}
 use Rattle.slide.specs.Bend.{Edge}
-use Rattle.slide.specs.Bar.{level, on_bar, ahead, behind, shortest, first_of}
+use Rattle.slide.specs.Bar.{level, on_bar, first_of}
 use Rattle.slide.specs.Sweep.{first_place, reach, surplus, saving_of}
 use Rattle.slide.specs.Slide.{tree_points, moves, distance_of, move_of}
 use Rattle.slide.proofs.BarLaws.{first_one, first-least}

@@ -16,6 +16,7 @@ ghost use Rattle.moves.specs.Moving.{seats_of};
 ghost use Rattle.bars.specs.Offers.{Fresh, searched};
 
 use moves::PINS;
+use plane::Place;
 use reach::Size;
 use slide::{Move, Side};
 use straight::{NUMBERS, POINTS};
@@ -25,6 +26,19 @@ use straight::{NUMBERS, POINTS};
 pub struct Best {
     pub label: usize,
     pub best: Move,
+}
+
+impl Best {
+    // Before any bar is offered.
+    pub const NONE: Best = Best {
+        label: 0,
+        best: Move {
+            saving: 0,
+            first: Place { x: 0, y: 0 },
+            side: Side::Above,
+            distance: 0,
+        },
+    };
 }
 
 // The best move of all bars of a tree, with the labels of its points along rows and along columns.
@@ -46,9 +60,9 @@ pub fn choice(
         (labelled Right pts.now keys.now z.points z.edges columns.old) z macros.now
         (seats_of pts.now z.points pins.now z.pins (replicate pin_bound 0)) }
 {
-    labels::label(pts, keys, z.points, z.edges, Side::Above, &mut *rows);
-    labels::label(pts, keys, z.points, z.edges, Side::Right, &mut *columns);
+    labels::label(pts, keys, z.points, z.edges, Side::Above, rows);
+    labels::label(pts, keys, z.points, z.edges, Side::Right, columns);
     let mut seats = [0; PINS];
     moves::seat(pts, z.points, pins, z.pins, &mut seats);
-    search::search(pts, keys, z, macros, &seats, &*rows, &*columns)
+    search::search(pts, keys, z, macros, &seats, rows, columns)
 }

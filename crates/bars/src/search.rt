@@ -11,7 +11,6 @@ ghost use Rattle.bars.specs.Offers.{Needed, offered, offered_both, searched};
 
 use crate::Best;
 use moves::PINS;
-use plane::Place;
 use reach::Size;
 use slide::{Move, Side};
 use straight::{NUMBERS, POINTS};
@@ -20,13 +19,11 @@ use straight::{NUMBERS, POINTS};
 fn needed(best: Move, rate: u64) -> u64
     ensures { Needed best.saving rate result }
 {
-    if best.saving < rate {
-        return 1;
+    if best.saving < rate || rate == 0 {
+        1
+    } else {
+        best.saving / rate
     }
-    if rate == 0 {
-        return 1;
-    }
-    best.saving / rate
 }
 
 // The best so far, or the move of the bar with label l to side s. The distance is asked last: it looks at
@@ -54,17 +51,13 @@ fn offer(
         return c;
     }
     let rate = (h.ahead - h.behind) as u64 * moves::weight_of(z.weights, s);
-    let first = straight::point_at(pts, l);
     let most = Move {
         saving: h.shortest * rate,
-        first: first,
+        first: straight::point_at(pts, l),
         side: s,
         distance: h.shortest,
     };
-    if !moves::is_better(most, c.best) {
-        return c;
-    }
-    if moves::is_held(seats, z.pins, lab, l) {
+    if !moves::is_better(most, c.best) || moves::is_held(seats, z.pins, lab, l) {
         return c;
     }
     let d = reach::reach(
@@ -76,16 +69,16 @@ fn offer(
         moves::bar_of(pts, lab, z.points, s, l, h.shortest),
         needed(c.best, rate),
     );
-    let m = Move {
+    let best = Move {
         saving: d * rate,
-        first: first,
-        side: s,
         distance: d,
+        ..most
     };
-    if moves::is_better(m, c.best) {
-        return Best { label: l, best: m };
+    if moves::is_better(best, c.best) {
+        Best { label: l, best }
+    } else {
+        c
     }
-    c
 }
 
 // The bar of edge k to both sides of the direction s, if the edge is a first one of it. What hangs there and back is known.
@@ -113,7 +106,7 @@ fn offer_both(
     if labels::leads(pts, keys, lab, s, k) {
         let l = lab[straight::first_end(keys, k)];
         let b = offer(pts, keys, z, macros, seats, lab, there, s, l, c);
-        return offer(
+        offer(
             pts,
             keys,
             z,
@@ -124,9 +117,10 @@ fn offer_both(
             moves::opposite(s),
             l,
             b,
-        );
+        )
+    } else {
+        c
     }
-    c
 }
 
 // Every edge in turn, along rows and along columns. What hangs from each bar stands in a table for each side.
@@ -153,17 +147,8 @@ fn search_by(
     ensures { result ≡ searched pts.now keys.now rows.now columns.now z macros.now
         seats.now }
 {
-    let mut c = Best {
-        label: 0,
-        best: Move {
-            saving: 0,
-            first: Place { x: 0, y: 0 },
-            side: Side::Above,
-            distance: 0,
-        },
-    };
-    let mut k = 0;
-    while k < z.edges {
+    let mut c = Best::NONE;
+    for k in 0..z.edges {
         c = offer_both(
             pts,
             keys,
@@ -190,7 +175,6 @@ fn search_by(
             k,
             c,
         );
-        k += 1;
     }
     c
 }

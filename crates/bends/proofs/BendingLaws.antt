@@ -9,7 +9,7 @@ use lib.IntN.{ℤ}
 use lib.ListN.{length, drop, length-append}
 use lib.Seq.{sets, append_snoc}
 use Rattle.lists.specs.Any.{any}
-use Rattle.lists.proofs.TestLaws.{by, differ, or_swap}
+use Rattle.lists.proofs.TestLaws.{by, or_swap}
 use Rattle.lent.specs.Over.{over}
 use Rattle.lent.specs.Entries.{flat, entries}
 use Rattle.lent.proofs.OverLaws.{over_none}
@@ -21,24 +21,23 @@ use Rattle.graph.specs.Edges.{edge_of}
 use Rattle.graph.specs.Numbers.{place_numbers, edge_numbers, edge_from}
 use Rattle.graph.proofs.WidthLaws.{place-width, edge-width}
 use Rattle.slide.specs.Bend.{Edge, straight, x_first, y_first, taken, Bent, bent, given_back, kept, through, bends}
-use Rattle.bends.specs.declared.Corner.{Corner}
-use Rattle.bends.specs.declared.Corner.TheVariants.{At, Taken}
-use Rattle.bends.specs.declared.Bent as declared
+use Rattle.std.specs.Prelude.{Option, Some, None}
+use Rattle.tree.specs.declared.Size.{Size}
 use Rattle.settled.specs.Settled.{edges_of}
 use Rattle.bends.specs.Bending.{corner_of, counts, BentAt, BentWhere, BentBy}
 
 -- Corners
 
 module _ (X : List Place) (e : Edge) where
-  pub corner-x : taken X (x_first e) ≡ false → corner_of X e ≡ At (x_first e)
+  pub corner-x : taken X (x_first e) ≡ false → corner_of X e ≡ Some (x_first e)
   unfolding corner_of
   corner-x h = rw (corner_of, h) refl
 
-  pub corner-y : taken X (x_first e) ≡ true → taken X (y_first e) ≡ false → corner_of X e ≡ At (y_first e)
+  pub corner-y : taken X (x_first e) ≡ true → taken X (y_first e) ≡ false → corner_of X e ≡ Some (y_first e)
   unfolding corner_of
   corner-y h k = rw (corner_of, h, k) refl
 
-  pub corner-none : taken X (x_first e) ≡ true → taken X (y_first e) ≡ true → corner_of X e ≡ Taken
+  pub corner-none : taken X (x_first e) ≡ true → taken X (y_first e) ≡ true → corner_of X e ≡ None
   unfolding corner_of
   corner-none h k = rw (corner_of, h, k) refl
 
@@ -52,9 +51,9 @@ corner-same X e P same =
     (λ h. corner-x P e (same (x_first e) ∙ h) ∙ sym (corner-x X e h))
 
 -- what a slanted edge comes to
-abbrev turned : List Place → Edge → List Edge → Corner → Bent
-turned X e T (At c) = through e c (bends (c ∷ X) T)
-turned X e T Taken = given_back
+abbrev turned : List Place → Edge → List Edge → Option Place → Bent
+turned X e T (Some c) = through e c (bends (c ∷ X) T)
+turned X e T None = given_back
 
 bends-slanted : (X : List Place) (e : Edge) (T : List Edge) → straight e ≡ false → bends X (e ∷ T) ≡ turned X e T (corner_of X e)
 unfolding bends
@@ -165,12 +164,12 @@ module _ (X : List Place) (T : List Edge) (pts₀ out₀ : List ℤ) where
             ∙ ap (λ (l : List Edge). before (r.done ++ (e ∷ [])) (bends r.ahead l)) (sym next);
       }
 
-      pub bending-slanted : (c : Place) → straight e ≡ false → At c ≡ corner_of (entries place_from 2 pts points) e
+      pub bending-slanted : (c : Place) → straight e ≡ false → Some c ≡ corner_of (entries place_from 2 pts points) e
           → points * 2 + 2 ≤ length pts₀ → count * 4 + 8 ≤ length out₀
-          → (more newer : List ℤ) (a : declared.Bent) (t : Bool) → BentAt c e (counts t points count) pts out a more newer
+          → (more newer : List ℤ) (a : Size) → BentAt c e (counts points count) pts out a more newer
           → Bending more newer (points + 1) (count + 2) (i + 1)
       unfolding through
-      bending-slanted c s k fits room more newer at t w =
+      bending-slanted c s k fits room more newer at w =
           let a = edge_of e.0 c in
           let b = edge_of c e.1 in
           let one : length (r.done ++ (a ∷ [])) ≡ count + 1 = snoc-length r.done a ∙ ap (λ (n : ℕ). n + 1) r.made in
@@ -200,47 +199,36 @@ module _ (X : List Place) (T : List Edge) (pts₀ out₀ : List ℤ) where
                 ∙ ap (λ (l : List Edge). before ((r.done ++ (a ∷ [])) ++ (b ∷ [])) (bends (c ∷ r.ahead) l)) (sym next);
           }
 
-      pub bending-back : straight e ≡ false → Taken ≡ corner_of (entries place_from 2 pts points) e → bends X T ≡ given_back
+      pub bending-back : straight e ≡ false → None ≡ corner_of (entries place_from 2 pts points) e → bends X T ≡ given_back
       unfolding before
       bending-back s k =
           here ∙ ap (before r.done) (bends-slanted r.ahead e left s ∙ ap (turned r.ahead e left) (sym (k ∙ corner-is e)))
 
       -- a slanted edge, wherever it bends: what comes after it, or what all comes to
-      pub data Slanting (a : declared.Bent) (more newer : List ℤ) : Type 0 where
-        goes_on : a ≡ counts false (points + 1) (count + 2) → Bending more newer (points + 1) (count + 2) (i + 1) → Slanting a more newer
-        goes_back : a.back ≡ true → bends X T ≡ given_back → Slanting a more newer
+      pub bending-on : straight e ≡ false → points * 2 + 2 ≤ length pts₀ → count * 4 + 8 ≤ length out₀
+          → (corner : Option Place) → corner ≡ corner_of (entries place_from 2 pts points) e → (a : Size) (more newer : List ℤ)
+          → BentWhere corner e (counts points count) pts out (Some a) more newer
+          → (a ≡ counts (points + 1) (count + 2)) × Bending more newer (points + 1) (count + 2) (i + 1)
+      bending-on s fits room (Some c) k a more newer w = (w.counted, bending-slanted c s k fits room more newer a w)
+      bending-on s fits room None k a more newer w = cc
 
-      pub bending-where : straight e ≡ false → points * 2 + 2 ≤ length pts₀ → count * 4 + 8 ≤ length out₀
-          → (corner : Corner) → corner ≡ corner_of (entries place_from 2 pts points) e → (a : declared.Bent) (more newer : List ℤ) (t : Bool)
-          → BentWhere corner e (counts t points count) pts out a more newer → Slanting a more newer
-      bending-where s fits room (At c) k a more newer t w = goes_on w.counted (bending-slanted c s k fits room more newer a t w)
-      bending-where s fits room Taken k a more newer t w = goes_back w (bending-back s k)
+      pub bending-gives_back : straight e ≡ false
+          → (corner : Option Place) → corner ≡ corner_of (entries place_from 2 pts points) e → (more newer : List ℤ)
+          → BentWhere corner e (counts points count) pts out None more newer → BentBy (bends X T) None newer
+      bending-gives_back s (Some c) k more newer w = absurd w
+      bending-gives_back s None k more newer w = rw (bending-back s k) refl
 
-      pub slanting-on : (a : declared.Bent) (more newer : List ℤ) → Slanting a more newer → a.back ≡ false
-          → (a ≡ counts false (points + 1) (count + 2)) × Bending more newer (points + 1) (count + 2) (i + 1)
-      slanting-on a more newer (goes_on k b) f = (k, b)
-      slanting-on a more newer (goes_back t z) f = differ t f
-
-      pub slanting-back : (a : declared.Bent) (more newer : List ℤ) → Slanting a more newer → a.back ≡ true → BentBy (bends X T) a newer
-      slanting-back a more newer (goes_on k b) t = differ t (ap (λ (x : declared.Bent). x.back) k)
-      slanting-back a more newer (goes_back u z) t = rw z t
-
-    pub bending-end : drop i T ≡ [] → (a : declared.Bent) → a.back ≡ false → a.points ≡ points → a.edges ≡ count
-        → BentBy (bends X T) a out
+    pub bending-end : drop i T ≡ [] → BentBy (bends X T) (Some (counts points count)) out
     unfolding before bends
-    bending-end end a back p q =
+    bending-end end =
         let z : bends X T ≡ bent r.ahead r.done =
         r.rest
         ∙ ap (λ (l : List Edge). before r.done (bends r.ahead l)) end
         ∙ ap (bent r.ahead) (append-nil r.done) in
         rw z (
-          back,
+          sym r.many ∙ r.long,
           (
-            p ∙ sym r.many ∙ r.long,
-            (
-              q ∙ sym r.made,
-              ap₂ edges_of r.given (q ∙ sym r.made)
-                  ∙ entries_over edge_numbers edge_from 4 edge-width r.done out₀ (length r.done) refl,
-            ),
+            sym r.made,
+            ap₂ edges_of r.given (sym r.made) ∙ entries_over edge_numbers edge_from 4 edge-width r.done out₀ (length r.done) refl,
           ),
         )

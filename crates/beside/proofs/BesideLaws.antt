@@ -1,11 +1,11 @@
 -- Laws of sources, seats and candidates beside the tree, as the code goes through them.
 -- Assumes nothing.
 use mathlib.Core.Path.{◌≡◌, refl, sym, ap, ◌∙◌}
-use mathlib.Core.Bool.{Bool, true, false, not, ◌&&◌, ◌||◌}
+use mathlib.Core.Bool.{Bool, true, false, ◌&&◌, ◌||◌}
 use mathlib.Core.Logic.{◌⊎◌, inl, inr}
 use mathlib.Core.List.Memᴰ
 use mathlib.Core.List.{List, [], ◌∷◌, ◌++◌, append-nil}
-use Prim.Native.Nat.{ℕ, zero, suc, ◌+◌, ◌-◌, ◌≤◌, ◌<◌}
+use Prim.Native.Nat.{ℕ, suc, ◌+◌, ◌-◌, ◌≤◌, ◌<◌}
 use native.Mathlib.Omega.{arith}
 use native.Mathlib.Numerals.{add-one}
 use lib.Dec.{ltb, eqb}
@@ -35,10 +35,9 @@ use Rattle.lists.specs.Turns.{turns}
 use Rattle.longest.specs.Longest.{measure, costs, longest, cut_of}
 use Rattle.near.specs.Box.{box_of, box_cost}
 use Rattle.near.proofs.BoxLaws.{box-cost}
-use Rattle.triples.specs.Triple.{sees, dropped, may_gain}
+use Rattle.triples.specs.Triple.{may_gain}
 use Rattle.candidates.specs.Candidate.{best, chosen}
 use Rattle.candidates.specs.Candidate as tree
-use Rattle.exchanges.specs.Exchange.{stands}
 use Rattle.beside.specs.Beside.{is_point, sources_from, take_seat, on_way, free, middle_beside, weighed, offer, search}
 use Rattle.beside.specs.Beside.{chosen_of}
 use Rattle.beside.specs.Beside.{choice, either as chosen_either}
@@ -48,10 +47,6 @@ and-false true = refl
 and-false false = refl
 
 -- Sources
-
-pub is-point-is : (pts : List ℤ) (n r : ℕ) (p : Place) (t : Bool) → r ≡ rank pts n p → t ≡ stands pts n r p → t ≡ is_point pts n p
-unfolding is_point
-is-point-is pts n r p t e f = f ∙ ap (λ (q : ℕ). stands pts n q p) e
 
 module _ (pts : List ℤ) (n : ℕ) (vs : List ℤ) (v : ℕ) where
   -- the vertices from i on are still to come; those found so far are written
@@ -155,22 +150,6 @@ module _ (vs : List ℤ) (s : Place) (fars ups : List ℕ) (u : ℕ) where
     way-there p e t = sym (on_step ∙ rw (← e, t) refl)
 
 -- Candidates
-
-module _ (pts : List ℤ) (n : ℕ) (ms : List Macro) (vs : List ℤ) (fars ups : List ℕ) (a b u : ℕ) (s p q r : Place)
-    (f : p ≡ place_at pts a) (g : q ≡ place_at pts b) (h : r ≡ place_at vs u) where
-  pub free-unseen : sees ms p q r ≡ false → false ≡ free pts n ms vs fars ups a b u s
-  unfolding free
-  free-unseen e = rw (← f, ← g, ← h, e) refl
-
-  module _ (e : sees ms p q r ≡ true) where
-    pub free-dropped : dropped pts n a b a s ≡ true → false ≡ free pts n ms vs fars ups a b u s
-    unfolding free
-    free-dropped d = rw (← f, ← g, ← h, e, d) refl
-
-    pub free-way : dropped pts n a b a s ≡ false → (t : Bool) → t ≡ on_way vs s (way_after fars ups u) →
-        not t ≡ free pts n ms vs fars ups a b u s
-    unfolding free
-    free-way d t o = rw (← f, ← g, ← h, e, d, ← o) refl
 
 -- the places of a candidate, what metal from s to u costs and how far u is from the tree, by their names
 pub record Spots (w : Weights) (pts vs : List ℤ) (fars : List ℕ) (a b u : ℕ) (p q r s : Place) (m f : ℕ) : Type 0 where

@@ -99,7 +99,7 @@ search w pts n ms keys e el top vs v fars ups seat c = turns (offers w pts n ms 
 
 -- on the tree, or beside it where that gains more
 abbrev pub choice : Bool → Best → Choice
-choice k c = record { beside = k; gain = c.gain; edge = c.edge; point = c.point; cut = c.cut }
+choice k c = record { beside = k; best = c }
 
 unfoldable pub either : Best → Best → Choice
 either on off = elim (ltb on.gain off.gain) [ true ↦ choice true off | false ↦ choice false on ]

@@ -35,23 +35,11 @@ pub const VERTEX_NUMBERS: usize = VERTICES * 2;
 #[derive(Clone, Copy)]
 pub struct Choice {
     pub beside: bool,
-    pub gain: u64,
-    pub edge: usize,
-    pub point: usize,
-    pub cut: usize,
-}
-
-pub fn vertex_at(vertices: &[i32; VERTEX_NUMBERS], v: usize) -> Place
-    requires { v < point_bound }
-    ensures { result ≡ place_at vertices.now v }
-{
-    Place {
-        x: vertices[v * 2],
-        y: vertices[v * 2 + 1],
-    }
+    pub best: Best,
 }
 
 // Whether p is the place of a tree point.
+#[tactic(auto, unfolding(crate::specs::Beside::is_point))]
 fn is_point(pts: &[i32; NUMBERS], n: usize, p: Place) -> bool
     requires n_le_tree_bound { n ≤ tree_bound }
     requires n_in_bounds { (n * 2 ≤ length pts.now) × (InOrder pts.now n) }
@@ -75,12 +63,9 @@ pub fn sources(
     ensures upper_bound { (result ≤ point_bound) × (FirstBelow source.new result point_bound) }
 {
     let mut c = 0;
-    let mut i = 0;
-    while i < v {
-        let at = i;
-        i += 1;
-        if is_point(pts, n, vertex_at(vertices, at)) {
-            source[c] = at;
+    for i in 0..v {
+        if is_point(pts, n, plane::place_at(vertices, i)) {
+            source[c] = i;
             c += 1;
         }
     }
@@ -102,10 +87,8 @@ pub fn seats(
     ensures { seat.new ≡ turns (take_seat pts.now n vertices.now root.now) 0 v
         seat.old }
 {
-    let mut i = 0;
-    while i < v {
-        seat[i] = plane::rank(pts, n, vertex_at(vertices, root[i]));
-        i += 1;
+    for i in 0..v {
+        seat[i] = plane::rank(pts, n, plane::place_at(vertices, root[i]));
     }
 }
 
@@ -121,16 +104,13 @@ fn on_way(
     ensures { result ≡ on_way vertices.now s (way_after far.now up.now u) }
 {
     let y = up[u];
-    if y < VERTICES {
-        if plane::is_same_place(s, vertex_at(vertices, y)) {
-            return true;
-        }
-        return on_way(vertices, far, up, y, s);
-    }
-    false
+    y < VERTICES
+        && (plane::is_same_place(s, plane::place_at(vertices, y))
+            || on_way(vertices, far, up, y, s))
 }
 
-// Whether the vertex u at r, beside the tree, sees a or b, and s is the place of no other tree point and of none on the way.
+// Whether the vertex u, beside the tree, sees a or b, and s is the place of no other tree point and of none on the way.
+#[tactic(auto, unfolding(crate::specs::Beside::free))]
 fn is_free(
     pts: &[i32; NUMBERS],
     n: usize,
@@ -148,18 +128,12 @@ fn is_free(
     ensures { result ≡ free pts.now n (macros_of macros.now) vertices.now far.now
         up.now a b u s }
 {
-    if triples::sees(
-        macros,
-        tree::point_at(pts, a),
-        tree::point_at(pts, b),
-        vertex_at(vertices, u),
-    ) {
-        if triples::is_dropped(pts, n, a, b, a, s) {
-            return false;
-        }
-        return !on_way(vertices, far, up, u, s);
-    }
-    false
+    let p = plane::place_at(pts, a);
+    let q = plane::place_at(pts, b);
+    let r = plane::place_at(vertices, u);
+    triples::sees(macros, p, q, r)
+        && !triples::is_dropped(pts, n, a, b, a, s)
+        && !on_way(vertices, far, up, u, s)
 }
 
 // The best so far, or the candidate of edge k from a to b and the vertex u, whose L is l.
@@ -184,25 +158,20 @@ fn weigh(
     ensures { result ≡ weighed w pts.now n (macros_of macros.now) vertices.now far.now
         up.now a b k u l long c }
 {
-    let r = vertex_at(vertices, u);
-    let s = plane::middle_place(tree::point_at(pts, a), tree::point_at(pts, b), r);
+    let r = plane::place_at(vertices, u);
+    let s = plane::middle_place(plane::place_at(pts, a), plane::place_at(pts, b), r);
     let d = plane::cost(w, s, r) + far[u];
-    if long <= d {
-        return c;
-    }
-    let g = long - d;
-    if g <= c.gain {
-        return c;
-    }
-    if is_free(pts, n, macros, vertices, far, up, a, b, u, s) {
-        return Best {
-            gain: g,
+    let gain = long.saturating_sub(d);
+    if c.gain < gain && is_free(pts, n, macros, vertices, far, up, a, b, u, s) {
+        Best {
+            gain,
             edge: k,
             point: u,
             cut: l,
-        };
+        }
+    } else {
+        c
     }
-    c
 }
 
 // The candidate of edge k from a to b and the vertex u beside the tree, whose root is the tree point v and whose L is l.
@@ -233,10 +202,7 @@ fn offer(
         return c;
     }
     let long = el[l];
-    if long <= c.gain {
-        return c;
-    }
-    if long - c.gain <= far[u] {
+    if long.saturating_sub(c.gain) <= far[u] {
         return c;
     }
     weigh(w, pts, n, macros, vertices, far, up, a, b, k, u, l, long, c)
@@ -273,27 +239,23 @@ fn offers(
 {
     let a = keys[k] / POINTS;
     let b = keys[k] % POINTS;
-    let m = near::box_of(tree::point_at(pts, a), tree::point_at(pts, b));
+    let m = near::box_of(plane::place_at(pts, a), plane::place_at(pts, b));
     if most <= c.gain {
         return c;
     }
     let last = near::to(w, m, vertices, v, most - c.gain);
-    let mut u = near::from(w, m, vertices, v, most - c.gain);
+    let first = near::from(w, m, vertices, v, most - c.gain);
     let mut row = [UNKNOWN; POINTS];
     longest::start(el, onto, link, turn, a, b, &mut row);
     let mut found = c;
-    while u < last {
-        let at = u;
-        u += 1;
-        let f = far[at];
-        if 0 < f {
-            if triples::may_gain(w, m, vertex_at(vertices, at), f, found.gain, most) {
-                let s = seat[at];
-                let l = longest::cut_at(el, onto, link, turn, s, &mut row);
-                found = offer(
-                    w, pts, n, macros, el, vertices, far, up, a, b, k, at, s, l, found,
-                );
-            }
+    for u in first..last {
+        let f = far[u];
+        if 0 < f && triples::may_gain(w, m, plane::place_at(vertices, u), f, found.gain, most) {
+            let s = seat[u];
+            let l = longest::cut_at(el, onto, link, turn, s, &mut row);
+            found = offer(
+                w, pts, n, macros, el, vertices, far, up, a, b, k, u, s, l, found,
+            );
         }
     }
     found
@@ -329,13 +291,11 @@ fn search(
         seat.now c }
 {
     let mut found = c;
-    let mut k = 0;
-    while k < e {
+    for k in 0..e {
         found = offers(
             w, pts, n, macros, keys, e, el, most, onto, link, turn, vertices, v, far, up, seat, k,
             found,
         );
-        k += 1;
     }
     found
 }
@@ -379,55 +339,23 @@ pub fn found(
     turn[0] = 1;
     longest::reached(keys, e, &mut onto, &mut link, &mut turn);
     bounds::renew(
-        w,
-        known,
-        old,
-        m,
-        before,
-        f,
-        pts,
-        n,
-        macros,
-        keys,
-        e,
-        &el,
-        most,
-        &onto,
-        &link,
-        &turn,
-        &mut *bound,
+        w, known, old, m, before, f, pts, n, macros, keys, e, &el, most, &onto, &link, &turn, bound,
     );
     let on = candidate::search(
-        w,
-        pts,
-        n,
-        macros,
-        keys,
-        e,
-        &el,
-        most,
-        &onto,
-        &link,
-        &turn,
-        &mut *bound,
+        w, pts, n, macros, keys, e, &el, most, &onto, &link, &turn, bound,
     );
     let off = search(
         w, pts, n, macros, keys, e, &el, most, &onto, &link, &turn, vertices, v, far, up, seat, on,
     );
     if on.gain < off.gain {
-        return Choice {
+        Choice {
             beside: true,
-            gain: off.gain,
-            edge: off.edge,
-            point: off.point,
-            cut: off.cut,
-        };
-    }
-    Choice {
-        beside: false,
-        gain: on.gain,
-        edge: on.edge,
-        point: on.point,
-        cut: on.cut,
+            best: off,
+        }
+    } else {
+        Choice {
+            beside: false,
+            best: on,
+        }
     }
 }

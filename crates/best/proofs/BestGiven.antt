@@ -12,7 +12,7 @@ use borrow.Author.Tests.{lt-ltb, ltb-true}
 use lib.IntN.{ℤ, pos}
 use lib.ListN.{length, get_or}
 use lib.Signed.{lt_z}
-use Rattle.lists.specs.Member.{◌∈◌, here, there, Among, Once}
+use Rattle.lists.specs.Member.{◌∈◌, here, Among, Once}
 use Rattle.lists.specs.Sorted.{Ascending, position, first_then}
 use Rattle.lists.specs.Those.{those}
 use Rattle.lists.specs.Total.{total}

@@ -8,7 +8,6 @@ use lib.IntN.{ℤ}
 use lib.ListN.{length}
 use Rattle.joined.specs.Cost.{lengths}
 use Rattle.plane.specs.declared.Place.{Place}
-use Rattle.plane.specs.declared.Macro.{Macro}
 use Rattle.net.specs.Net.{Net, cost_in}
 use Rattle.net.specs.Allowed.{Allowed}
 use Rattle.lines.specs.declared.Axis.TheVariants.{Across, Along}

@@ -1,6 +1,6 @@
 -- Marked segments given as edges, one after the other: those of the first j are written.
 -- Assumes nothing.
-use mathlib.Core.Path.{◌≡◌, refl, sym, ap, ap₂, subst, ◌∙◌}
+use mathlib.Core.Path.{◌≡◌, refl, sym, ap, subst, ◌∙◌}
 use mathlib.Core.Logic.{inl, inr}
 use mathlib.Core.List.{List, [], ◌∷◌, ◌++◌, map, map-append}
 use Prim.Native.Nat.{ℕ, ◌+◌, ◌*◌, ◌/◌, ◌≤◌, ◌<◌}
@@ -17,10 +17,7 @@ use Rattle.lent.specs.Entries.{flat}
 use Rattle.lent.proofs.OverLaws.{over_none}
 use Rattle.lent.proofs.EntryTable.{entry_more}
 use Rattle.plane.specs.declared.Place.{Place}
-use Rattle.plane.specs.declared.Weights.{Weights}
 use Rattle.plane.specs.Distance.{distance}
-use Rattle.plane.specs.Cost.{cost, plain}
-use Rattle.plane.proofs.CostLaws.{cost-plain}
 use Rattle.graph.specs.Numbers.{edge_numbers, edge_from}
 use Rattle.graph.proofs.WidthLaws.{edge-width}
 use Rattle.union.specs.Marks.{marks}
@@ -33,22 +30,15 @@ use Rattle.traced.specs.Routes.{in_their_order, edge_at, marked_edges, LengthOf,
 pub marked-inside : (j k b : ℕ) → k ≡ in_their_order j → b ≡ target k → target (in_their_order j) < crossing_bound → b < crossing_bound
 marked-inside j k b e f h = subst (λ (z : ℕ). z < crossing_bound) (sym (f ∙ ap target e)) h
 
-pub marked-put : (xs ys : List ℤ) (j k b : ℕ) (p q : Place) (count : ℕ) (t u : List ℤ) → k ≡ in_their_order j → b ≡ target k →
-    p ≡ crossing_at xs ys (k / 2) → q ≡ crossing_at xs ys b → u ≡ sets t (count * 4) (edge_numbers (p, q)) →
-    u ≡ sets t (count * 4) (edge_numbers (edge_at xs ys j))
-marked-put xs ys j k b p q count t u e f g h is =
-    is ∙ ap (λ (d : Edge). sets t (count * 4) (edge_numbers d))
-    (ap₂ (λ (x y : Place). (x, y)) (g ∙ ap (λ (i : ℕ). crossing_at xs ys (i / 2)) e) (h ∙ ap (crossing_at xs ys) (f ∙ ap target e)))
+-- the two ends of the j-th segment
+pub marked-ends : (xs ys : List ℤ) (j k b : ℕ) (p q : Place) → k ≡ in_their_order j → b ≡ target k → p ≡ crossing_at xs ys (k / 2) →
+    q ≡ crossing_at xs ys b → (p ≡ (edge_at xs ys j).0) × (q ≡ (edge_at xs ys j).1)
+marked-ends xs ys j k b p q e f g h =
+    (g ∙ ap (λ (i : ℕ). crossing_at xs ys (i / 2)) e, h ∙ ap (crossing_at xs ys) (f ∙ ap target e))
 
 lone : (x : Edge) → lengths distance (x ∷ []) ≡ distance x.0 x.1
 unfolding lengths total
 lone x = omega arith
-
-pub marked-length : (xs ys : List ℤ) (j k b : ℕ) (p q : Place) (w : Weights) (r : ℕ) → w ≡ plain → k ≡ in_their_order j → b ≡ target k →
-    p ≡ crossing_at xs ys (k / 2) → q ≡ crossing_at xs ys b → r ≡ cost w p q → r ≡ distance (edge_at xs ys j).0 (edge_at xs ys j).1
-marked-length xs ys j k b p q w r is e f g h c =
-    c ∙ ap (λ (v : Weights). cost v p q) is ∙ cost-plain p q
-    ∙ ap₂ distance (g ∙ ap (λ (i : ℕ). crossing_at xs ys (i / 2)) e) (h ∙ ap (crossing_at xs ys) (f ∙ ap target e))
 
 module _ (xs ys : List ℤ) (used : List ℕ) where
   abbrev edges : ℕ → List Edge

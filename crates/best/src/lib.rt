@@ -1,7 +1,7 @@
 // The best tree of a net of up to five pins: read back from the rows of its table, and given; the table is cleared.
 #![tactic(auto)]
 
-ghost use Rattle.std.specs.Prelude.{◌≡◌, ◌+◌, ◌*◌, ◌-◌, ◌^◌, ◌≤◌, ◌<◌, length, get_or, replicate};
+ghost use Rattle.std.specs.Prelude.{◌≡◌, ◌+◌, ◌*◌, ◌-◌, ◌^◌, ◌≤◌, ◌<◌, length, get_or, replicate, MatchOption};
 ghost use Rattle.joined.specs.Cost.{lengths};
 ghost use Rattle.lent.specs.Over.{over};
 ghost use Rattle.lent.specs.Entries.{flat};
@@ -14,11 +14,11 @@ ghost use Rattle.net.specs.Allowed.{Allowed};
 ghost use Rattle.lines.specs.Bounds.{grid_macros, crossing_bound, segment_bound};
 ghost use Rattle.grid.specs.Tables.{target};
 ghost use Rattle.parts.specs.Bounds.{best_pins, work_bound};
-ghost use Rattle.traced.specs.Routes.{in_their_order, marked_edges, LengthOf, MarkedPut};
+ghost use Rattle.traced.specs.Routes.{in_their_order, edge_at, marked_edges, LengthOf, MarkedPut};
 ghost use Rattle.best.specs.Tree.{BestOver};
 
 use lines::{Axis, Grid};
-use plane::Weights;
+use plane::{Place, Weights};
 
 // How many edges a best tree has, what they cost and the metal to lay. The bounds of a net that gets one are named here.
 #[derive(Clone, Copy)]
@@ -44,19 +44,7 @@ fn masks(m: usize) -> usize
     requires { (1 ≤ m) × (m ≤ best_pins) }
     ensures { result ≡ 2 ^ (m - 1) }
 {
-    if m < 2 {
-        return 1;
-    }
-    if m < 3 {
-        return 2;
-    }
-    if m < 4 {
-        return 4;
-    }
-    if m < 5 {
-        return 8;
-    }
-    Best::MASKS
+    1 << (m - 1)
 }
 
 // The first n numbers of a lent list are cleared.
@@ -64,16 +52,32 @@ pub fn clear(work: &mut [u32], n: usize)
     requires { n ≤ length work.old }
     ensures { work.new ≡ over (replicate n 0) work.old }
 {
-    let mut i = 0;
-    while i < n {
-        work[i] = 0;
-        i += 1;
-    }
+    work[..n].fill(0);
 }
 
 // The tree given
 
-// The segment that comes j-th in the order of edges, as the edge numbered `count` of a table, if it is marked; how many there are then.
+// The ends of the segment that comes j-th in the order of edges, if it is marked.
+fn marked_at(
+    xs: &[i32; Grid::LINES],
+    ys: &[i32; Grid::LINES],
+    used: &[usize; Grid::SEGMENTS],
+    j: usize,
+) -> Option<(Place, Place)>
+    requires { (j < segment_bound) × (1 ≤ get_or used.now j 0 → target (in_their_order j) < crossing_bound) }
+    ensures { MatchOption result (get_or used.now j 0 ≡ 0) (λ p. (1 ≤ get_or used.now j 0)
+        × ((p.0 ≡ (edge_at xs.now ys.now j).0) × (p.1 ≡ (edge_at xs.now ys.now j).1))) }
+{
+    if used[j] == 0 {
+        return None;
+    }
+    let k = traced::in_order(j);
+    let p = grid::crossing(xs, ys, k / 2);
+    let q = grid::crossing(xs, ys, grid::target(k));
+    Some((p, q))
+}
+
+// That segment as the edge numbered `count` of a table, if it is marked; how many there are then.
 fn put_marked(
     xs: &[i32; Grid::LINES],
     ys: &[i32; Grid::LINES],
@@ -87,15 +91,12 @@ fn put_marked(
     ensures { MarkedPut xs.now ys.now used.now j count edges.old result
         edges.new }
 {
-    if used[j] == 0 {
-        return count;
+    if let Some((p, q)) = marked_at(xs, ys, used, j) {
+        graph::put_edge(edges, count, p, q);
+        count + 1
+    } else {
+        count
     }
-    let k = traced::in_order(j);
-    let b = grid::target(k);
-    let p = grid::crossing(xs, ys, k / 2);
-    let q = grid::crossing(xs, ys, b);
-    graph::put_edge(&mut *edges, count, p, q);
-    count + 1
 }
 
 // The marked ones of the first e segments, in the order of edges; how many there are.
@@ -113,10 +114,8 @@ fn put_edges(
         edges.old }
 {
     let mut count = 0;
-    let mut j = 0;
-    while j < e {
-        count = put_marked(xs, ys, used, j, &mut *edges, count);
-        j += 1;
+    for j in 0..e {
+        count = put_marked(xs, ys, used, j, edges, count);
     }
     count
 }
@@ -131,18 +130,11 @@ fn marked_length(
     requires { (j < segment_bound) × (1 ≤ get_or used.now j 0 → target (in_their_order j) < crossing_bound) }
     ensures { (LengthOf xs.now ys.now used.now j result) × (result < cost_limit) }
 {
-    if used[j] == 0 {
-        return 0;
+    if let Some((p, q)) = marked_at(xs, ys, used, j) {
+        plane::cost(Weights::PLAIN, p, q)
+    } else {
+        0
     }
-    let k = traced::in_order(j);
-    let b = grid::target(k);
-    let p = grid::crossing(xs, ys, k / 2);
-    let q = grid::crossing(xs, ys, b);
-    let plain = Weights {
-        across: 1,
-        along: 1,
-    };
-    plane::cost(plain, p, q)
 }
 
 // The metal to lay for the marked ones of the first e segments: their lengths added up, whatever the net's weights.
@@ -156,10 +148,8 @@ fn metal(
     ensures { result ≡ lengths distance (marked_edges xs.now ys.now used.now e) }
 {
     let mut sum = 0;
-    let mut j = 0;
-    while j < e {
+    for j in 0..e {
         sum += marked_length(xs, ys, used, j);
-        j += 1;
     }
     sum
 }
@@ -185,25 +175,22 @@ pub fn best_tree(
     let mut ys = [0i32; Grid::LINES];
     let across = lines::lines(Axis::Across, pins, macros, &mut xs);
     let along = lines::lines(Axis::Along, pins, macros, &mut ys);
-    let grid = Grid {
-        across: across,
-        along: along,
-    };
+    let grid = Grid { across, along };
     let mut costs = [0u32; Grid::SEGMENTS];
     let e = grid::put_costs(w, macros, grid, &xs, &ys, &mut costs);
     let mut numbers = [0usize; Grid::PINS];
     lines::number_pins(grid, &xs, &ys, pins, &mut numbers);
     let m = net::pin_count(pins);
     let n = masks(m);
-    parts::fill(&costs, e, &numbers, m - 1, n, &mut *work);
+    parts::fill(&costs, e, &numbers, m - 1, n, work);
     let mut used = [0usize; Grid::SEGMENTS];
-    let total = traced::read_back(&*work, &costs, e, m - 1, n, numbers[0], &mut used);
+    let total = traced::read_back(work, &costs, e, m - 1, n, numbers[0], &mut used);
     let metal = metal(&xs, &ys, &used, e);
-    let count = put_edges(&xs, &ys, &used, e, &mut *edges);
-    clear(&mut *work, Best::WORK);
+    let edges = put_edges(&xs, &ys, &used, e, edges);
+    clear(work, Best::WORK);
     Best {
-        edges: count,
-        total: total,
-        metal: metal,
+        edges,
+        total,
+        metal,
     }
 }

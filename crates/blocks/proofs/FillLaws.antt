@@ -34,10 +34,12 @@ map-drop f (suc i) (x ∷ xs) = map-drop f i xs
 -- Parts of a table
 
 -- the first n entries of a table that xs was written into
+pub front-of-over : {X : Type 0} (xs l lent : List X) (n : ℕ) → l ≡ over xs lent → length xs ≡ n → take n l ≡ xs
+front-of-over xs l lent n e f = ap₂ take (sym f) e ∙ take-over xs lent
+
+-- as a part that begins at 0
 pub part-of-over : {X : Type 0} (xs l lent : List X) (n : ℕ) → l ≡ over xs lent → length xs ≡ n → take (n - 0) l ≡ xs
-part-of-over xs l lent n e f =
-    let k : n - 0 ≡ length xs = omega arith in
-    ap₂ take k e ∙ take-over xs lent
+part-of-over xs l lent n e f = front-of-over xs l lent (n - 0) e (omega arith)
 
 -- and the table is as long as it was
 pub over-long : {X : Type 0} (xs l lent : List X) (n : ℕ) → l ≡ over xs lent → length xs ≤ n → length lent ≡ n → length l ≡ n

@@ -27,7 +27,9 @@
 --   Block    block kind number count entries        one block
 --            head_block m k w, list_block             the head, and a block of entries
 --            block_of b words                        the block b of a file's words
+--   Kind     kind_word k, kind_width k                the kinds of blocks of entries as the code has them: their numbers, those of an entry
 pub mod Sizes
 pub mod Words
 pub mod Sums
 pub mod Block
+pub mod Kind

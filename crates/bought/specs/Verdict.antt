@@ -1,5 +1,5 @@
 -- The verdict on a list of edges: rules C33 to C35 and C79.
-use Rattle.std.specs.Prelude.{Bool, not, cond, ◌||◌, ◌&&◌, List, ℕ, suc, ◌/◌, ◌%◌, eqb, ltb, ℤ, pos, length, get_or}
+use Rattle.std.specs.Prelude.{Bool, not, cond, ◌||◌, ◌&&◌, List, ℕ, suc, ◌/◌, ◌%◌, eqb, ltb, ℤ, pos, length, get_or, Result}
 use Rattle.lists.specs.Any.{any}
 use Rattle.lists.specs.Those.{those}
 use Rattle.lists.specs.Sorted.{position}
@@ -12,13 +12,13 @@ use Rattle.plane.specs.Place.{before, same_place}
 use Rattle.plane.specs.Distance.{distance}
 use Rattle.plane.specs.Macro.{clear}
 use Rattle.net.specs.Net.{Net, cost_in}
-use Rattle.net.specs.Answer.{number}
+use Rattle.net.specs.declared.Refusal.{Refusal}
+use Rattle.net.specs.Answer.{told_by}
 use Rattle.net.specs.Tests.{out_of_range}
 use Rattle.forest.specs.Edges.{from, entries}
 use Rattle.bought.specs.Bounds.{bought_bound}
 use Rattle.bought.specs.Edges.{Edge, edges_of, ends_of, points_of}
-use Rattle.bought.specs.declared.Verdict.{Verdict}
-use Rattle.bought.specs.declared.Verdict.TheVariants.{Passed, Refused}
+use Rattle.bought.specs.declared.Sums.{Sums}
 
 -- C33: not whole fours, or more edges than the bound
 unfoldable pub edges_miscounted : List ℤ → Bool
@@ -65,6 +65,5 @@ unfoldable pub bought : Net → List ℤ → Told (ℤ × ℤ)
 bought net s = cond (edges_miscounted s || any out_of_range s) (refused 33) (verdict net (edges_of s))
 
 -- what the code's answer says
-unfoldable pub told_verdict : Verdict → Told (ℤ × ℤ)
-told_verdict (Passed c m) = given (c, m)
-told_verdict (Refused f) = refused (number f)
+abbrev pub told_verdict : Result Sums Refusal → Told (ℤ × ℤ)
+told_verdict = told_by (λ sums. (sums.cost, sums.metal))

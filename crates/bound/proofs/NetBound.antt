@@ -6,7 +6,7 @@ use mathlib.Core.Bool.{Bool}
 use mathlib.Core.List.{List, reverse}
 use Prim.Native.Nat.{ℕ, ◌≤◌}
 use native.Mathlib.Omega.{arith}
-use Rattle.lists.specs.Member.{◌∈◌, Among}
+use Rattle.lists.specs.Member.{Among}
 use Rattle.lists.specs.Sorted.{Order, sorted}
 use Rattle.lists.proofs.MemberLaws.{of_reverse}
 use Rattle.lists.proofs.SortedLaws.{of-sorted, in-sorted, sorted-ascending, ascending-same}

@@ -21,7 +21,7 @@ use Rattle.longest.specs.Hung.{Ties, onto_of, link_of, turn_of, top_of, Hanging,
 use Rattle.longest.proofs.WinsLaws.{shorter-first, shorter-second}
 use Rattle.longest.proofs.LongestLaws.{shorter-yes, shorter-no}
 use Rattle.longest.proofs.NoLonger.{no_longer, even-cost}
-use Rattle.triples.specs.Triple.{sees, taken, dropped, allowed}
+use Rattle.triples.specs.Triple.{sees, dropped, allowed}
 use Rattle.candidates.specs.declared.Best.{Best}
 use Rattle.candidates.specs.Candidate.{middle_of, offer}
 use Rattle.candidates.specs.Bounded.{Shut, Bounded}
@@ -218,12 +218,3 @@ module _ (w : Weights) (ms : List Macro) (old : List ℤ) (m : ℕ) (before : Li
     room = b.room;
     shut = λ k h u i _ c g. b.shut k h u i (λ q. let z : ⊥ = omega (arith, i, l, q) in z) c g;
   }
-
--- the ends of edges before hang
-pub ends-hung : (w : Weights) (ms : List Macro) (old : List ℤ) (m : ℕ) (before : List ℕ) (f : ℕ) (was : List ℕ) →
-    Was w ms old m before f was → (pts : List ℤ) (n : ℕ) (ks : List ℕ) (e : ℕ) (el : List ℕ) (s : Ties) → Hanging ks el e n s →
-    (fresh : ℕ) (at : List ℕ) → Numbered old m pts n fresh at → (k : ℕ) → k < f →
-    (0 < turn_of s (one_in before at k)) × (0 < turn_of s (two_in before at k))
-ends-hung w ms old m before f was W pts n ks e el s h fresh at N k l =
-    let i = W.within.ends k in
-    (h.all _ (N.low _ i.0), h.all _ (N.low _ i.1))

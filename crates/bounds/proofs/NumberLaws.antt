@@ -1,6 +1,7 @@
 -- Finding the points before among those of now, one place after the other.
 -- Assumes nothing.
-use mathlib.Core.Path.{◌≡◌, sym, ap, ◌∙◌, subst}
+use mathlib.Core.Bool.{false}
+use mathlib.Core.Path.{◌≡◌, refl, sym, ap, ◌∙◌, subst}
 use mathlib.Core.List.{List}
 use Prim.Native.Nat.{ℕ, ◌+◌, ◌≤◌, ◌<◌}
 use native.Mathlib.Omega.{arith}
@@ -8,7 +9,9 @@ use lib.Dec.{ltb, eqb}
 use lib.IntN.{ℤ}
 use lib.ListN.{length, get_or, set, length-set}
 use borrow.Author.Tests.{ltb-true, ltb-false, eqb-true, eqb-false}
-use Rattle.lists.proofs.TestLaws.{by}
+use Rattle.std.specs.Prelude.{Option, None, Some}
+use Rattle.std.specs.Option.{is_some, unwrap_or}
+use Rattle.lists.proofs.TestLaws.{by, differ}
 use Rattle.plane.specs.Flat.{place_at}
 use Rattle.tree.specs.Table.{tree_bound, Small}
 use Rattle.tree.proofs.SumLaws.{other, here as put-here}
@@ -27,17 +30,11 @@ pub record Finding (old : List ℤ) (m : ℕ) (pts : List ℤ) (n fresh i j : �
   pub same : (k : ℕ) → k < i → place_at pts (get_or at k 0) ≡ place_at old k
   pub known : (l : ℕ) → l < j → (l ≡ fresh → ⊥) → (k : ℕ) × ((k < i) × (get_or at k 0 ≡ l))
 
-module _ (old : List ℤ) (m : ℕ) (pts : List ℤ) (n : ℕ) (few : n ≤ tree_bound) (fewer : m ≤ tree_bound) where
-  pub finding-start : (at : List ℕ) → length at ≡ tree_bound → Small tree_bound at → Finding old m pts n n 0 0 at
-  finding-start at room small = record {
-    room = room;
-    small = small;
-    few = (omega arith, omega arith);
-    low = λ k l. absurd (let z : ⊥ = omega (arith, l) in z);
-    same = λ k l. absurd (let z : ⊥ = omega (arith, l) in z);
-    known = λ l h. absurd (let z : ⊥ = omega (arith, h) in z);
-  }
+pub no-fresh : (o : Option ℕ) (n : ℕ) → is_some o ≡ false → n ≤ unwrap_or o n
+no-fresh None n e = omega arith
+no-fresh (Some x) n e = differ refl e
 
+module _ (old : List ℤ) (m : ℕ) (pts : List ℤ) (n : ℕ) (few : n ≤ tree_bound) (fewer : m ≤ tree_bound) where
   module _ (fresh i j : ℕ) (at : List ℕ) (g : Finding old m pts n fresh i j at) (h : j < n) where
     -- the next point before stands there
     pub finding-next : i < m → place_at pts j ≡ place_at old i → Finding old m pts n fresh (i + 1) (j + 1) (set at i j)

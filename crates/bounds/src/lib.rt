@@ -3,6 +3,7 @@
 #![tactic(auto)]
 
 ghost use Rattle.std.specs.Prelude.{◌≡◌, true, List, ℕ, ◌≤◌, ◌<◌, length, get_or};
+ghost use Rattle.std.specs.Option.{IfSome, unwrap_or};
 ghost use Rattle.plane.specs.Cost.{cost};
 ghost use Rattle.plane.specs.Flat.{place_at, macros_of};
 ghost use Rattle.tree.specs.Table.{tree_bound, pair_bound, first_end, second_end, Small, Low, Within};
@@ -16,60 +17,40 @@ use longest::UNKNOWN;
 use plane::{Place, Weights};
 use tree::{NUMBERS, POINTS};
 
-// The points of the tree before, found among those of now: whether all of them are, with one further point at most, and that point's
-// number; n, where there is none.
-#[derive(Clone, Copy)]
-pub struct Found {
-    pub all: bool,
-    pub fresh: usize,
-}
-
 // The i-th of m points stands at p.
 fn is_next(old: &[i32; NUMBERS], m: usize, i: usize, p: Place) -> bool
     requires { m ≤ tree_bound }
     ensures { result ≡ true → (i < m) × (p ≡ place_at old.now i) }
 {
-    if i < m {
-        return plane::is_same_place(p, tree::point_at(old, i));
-    }
-    false
+    i < m && plane::is_same_place(p, tree::point_at(old, i))
 }
 
-// The numbers of the m points before among the n points of now. Both are in the order of places, so one pass finds them.
+// The numbers of the m points before among the n points of now, and the number of a further point of now, if there is one. None where a
+// point before is not there, or more than one is new. Both are in the order of places, so one pass finds them.
 pub fn numbers(
     old: &[i32; NUMBERS],
     m: usize,
     pts: &[i32; NUMBERS],
     n: usize,
     at: &mut [usize; POINTS],
-) -> Found
+) -> Option<Option<usize>>
     requires { ((m ≤ tree_bound) × (n ≤ tree_bound)) × ((length at.old ≡ tree_bound) × (Small tree_bound at.old)) }
     ensures small { Small tree_bound at.new }
-    ensures numbered { result.all ≡ true → Numbered old.now m pts.now n result.fresh at.new }
+    ensures numbered { IfSome result (λ fresh. IfSome fresh (λ j. j < n) × Numbered old.now m pts.now n (unwrap_or fresh n) at.new) }
 {
-    let mut fresh = n;
+    let mut fresh = None;
     let mut i = 0;
-    let mut j = 0;
-    while j < n {
-        let p = j;
-        j += 1;
-        if is_next(old, m, i, tree::point_at(pts, p)) {
-            at[i] = p;
+    for j in 0..n {
+        if is_next(old, m, i, tree::point_at(pts, j)) {
+            at[i] = j;
             i += 1;
+        } else if fresh.is_some() {
+            return None;
         } else {
-            if fresh < n {
-                return Found {
-                    all: false,
-                    fresh: fresh,
-                };
-            }
-            fresh = p;
+            fresh = Some(j);
         }
     }
-    Found {
-        all: i == m,
-        fresh: fresh,
-    }
+    if i == m { Some(fresh) } else { None }
 }
 
 // Whether x hangs on y.
@@ -77,10 +58,7 @@ fn hangs(onto: &[usize; POINTS], turn: &[usize; POINTS], x: usize, y: usize) -> 
     requires { (x < tree_bound) × (y < tree_bound) }
     ensures { result ≡ true → (get_or onto.now x 0 ≡ y) × (get_or turn.now y 0 < get_or turn.now x 0) }
 {
-    if onto[x] == y {
-        return turn[y] < turn[x];
-    }
-    false
+    onto[x] == y && turn[y] < turn[x]
 }
 
 // What the edge costs by which x hangs.
@@ -126,12 +104,12 @@ fn between(
         → result ≡ tall el.now t x y }
 {
     if hangs(onto, turn, x, y) {
-        return link_cost(el, link, x);
+        link_cost(el, link, x)
+    } else if hangs(onto, turn, y, x) {
+        link_cost(el, link, y)
+    } else {
+        long_cost(el, onto, link, turn, x, y)
     }
-    if hangs(onto, turn, y, x) {
-        return link_cost(el, link, y);
-    }
-    long_cost(el, onto, link, turn, x, y)
 }
 
 // Whether that is no more than metal from x to y costs.
@@ -173,14 +151,11 @@ pub fn is_calm(
     ensures { (t : List ℕ) → Told el.now (ties onto.now link.now turn.now) t
         → result ≡ true → Calm w pts.now el.now t keys.now f at.now }
 {
-    let mut k = 0;
-    while k < f {
+    for k in 0..f {
         let q = keys[k];
         let x = at[q / POINTS];
         let y = at[q % POINTS];
-        if is_joined(w, pts, el, onto, link, turn, x, y) {
-            k += 1;
-        } else {
+        if !is_joined(w, pts, el, onto, link, turn, x, y) {
             return false;
         }
     }
@@ -214,7 +189,8 @@ pub fn carry(
     let mut next = [most; POINTS];
     let mut j = 0;
     let mut k = 0;
-    while (j < f) & (k < e) {
+    // Kept: two lists in order are gone through side by side, and which one goes on depends on what stands there.
+    while j < f && k < e {
         let p = key_now(before, at, j);
         let q = keys[k];
         if p < q {
@@ -257,33 +233,17 @@ fn carried(
         (longest keys.now el.now e n) n bound.new }
 {
     let mut at = [0usize; POINTS];
-    let r = numbers(old, m, pts, n, &mut at);
-    if r.all {
-        if is_calm(w, pts, el, onto, link, turn, before, f, &at) {
-            carry(before, f, &at, keys, e, most, &mut *bound);
-            let fresh = r.fresh;
-            if fresh < n {
-                candidate::raise(
-                    w,
-                    pts,
-                    n,
-                    macros,
-                    keys,
-                    e,
-                    el,
-                    onto,
-                    link,
-                    turn,
-                    fresh,
-                    &mut *bound,
-                );
-                return true;
-            }
-            return true;
-        }
+    let Some(fresh) = numbers(old, m, pts, n, &mut at) else {
+        return false;
+    };
+    if !is_calm(w, pts, el, onto, link, turn, before, f, &at) {
         return false;
     }
-    false
+    carry(before, f, &at, keys, e, most, bound);
+    if let Some(s) = fresh {
+        candidate::raise(w, pts, n, macros, keys, e, el, onto, link, turn, s, bound);
+    }
+    true
 }
 
 // The bounds of the tree of now: those of the tree before, where it is known and they stand; otherwise what no candidate gains more than.
@@ -312,29 +272,11 @@ pub fn renew(
     ensures { Bounded w pts.now n (macros_of macros.now) keys.now e el.now
         (longest keys.now el.now e n) n bound.new }
 {
-    if known {
-        if carried(
-            w,
-            old,
-            m,
-            before,
-            f,
-            pts,
-            n,
-            macros,
-            keys,
-            e,
-            el,
-            most,
-            onto,
-            link,
-            turn,
-            &mut *bound,
-        ) {
-            return;
-        }
+    if !known
+        || !carried(
+            w, old, m, before, f, pts, n, macros, keys, e, el, most, onto, link, turn, bound,
+        )
+    {
         *bound = [most; POINTS];
-        return;
     }
-    *bound = [most; POINTS];
 }

@@ -35,22 +35,17 @@ fn weigh(
     let r = tree::point_at(pts, u);
     let s = plane::middle_place(tree::point_at(pts, a), tree::point_at(pts, b), r);
     let d = plane::cost(w, s, r);
-    if long <= d {
-        return c;
-    }
-    let g = long - d;
-    if g <= c.gain {
-        return c;
-    }
-    if triples::is_allowed(pts, n, macros, a, b, u, s) {
-        return Best {
-            gain: g,
+    let gain = long.saturating_sub(d);
+    if c.gain < gain && triples::is_allowed(pts, n, macros, a, b, u, s) {
+        Best {
+            gain,
             edge: k,
             point: u,
             cut: l,
-        };
+        }
+    } else {
+        c
     }
-    c
 }
 
 // The candidate of edge k from a to b, in the box m, and the point u, whose L is l.
@@ -73,16 +68,18 @@ fn offer(
     ensures { (t : List ℕ) → l ≡ cut_of el.now t a b u
         → result ≡ offer w pts.now n (macros_of macros.now) el.now t a b k u c }
 {
-    if (u == a) | ((u == b) | (l == k)) {
+    if u == a || u == b || l == k {
         return c;
     }
     let long = el[l];
     if triples::may_gain(w, m, tree::point_at(pts, u), 0, c.gain, long) {
-        return weigh(w, pts, n, macros, a, b, k, u, l, long, c);
+        weigh(w, pts, n, macros, a, b, k, u, l, long, c)
+    } else {
+        c
     }
-    c
 }
 
+// The best so far with edge k and all points. Those that metal across alone makes too far are passed over.
 fn offers(
     w: Weights,
     pts: &[i32; NUMBERS],
@@ -111,16 +108,14 @@ fn offers(
         return c;
     }
     let last = near::to(w, m, pts, n, most - c.gain);
-    let mut u = near::from(w, m, pts, n, most - c.gain);
+    let first = near::from(w, m, pts, n, most - c.gain);
     let mut row = [UNKNOWN; POINTS];
     longest::start(el, onto, link, turn, a, b, &mut row);
     let mut found = c;
-    while u < last {
-        let at = u;
-        u += 1;
-        if triples::may_gain(w, m, tree::point_at(pts, at), 0, found.gain, most) {
-            let l = longest::cut_at(el, onto, link, turn, at, &mut row);
-            found = offer(w, pts, n, macros, el, m, a, b, k, at, l, found);
+    for u in first..last {
+        if triples::may_gain(w, m, tree::point_at(pts, u), 0, found.gain, most) {
+            let l = longest::cut_at(el, onto, link, turn, u, &mut row);
+            found = offer(w, pts, n, macros, el, m, a, b, k, u, l, found);
         }
     }
     found
@@ -168,18 +163,10 @@ fn ask(
         link,
         turn,
         k,
-        Best {
-            gain: 0,
-            edge: 0,
-            point: 0,
-            cut: 0,
-        },
+        Best::NONE,
     );
     bound[k] = own.gain;
-    if c.gain < own.gain {
-        return own;
-    }
-    c
+    if c.gain < own.gain { own } else { c }
 }
 
 // The bound of edge k, raised to what it gains with the point s. The row is that of s.
@@ -210,8 +197,8 @@ fn raised(
 {
     let a = keys[k] / POINTS;
     let b = keys[k] % POINTS;
-    let p = longest::cut_at(el, onto, link, turn, a, &mut *row);
-    let q = longest::cut_at(el, onto, link, turn, b, &mut *row);
+    let p = longest::cut_at(el, onto, link, turn, a, row);
+    let q = longest::cut_at(el, onto, link, turn, b, row);
     let l = longest::shorter(el, p, q);
     let m = near::box_of(tree::point_at(pts, a), tree::point_at(pts, b));
     let c = offer(
@@ -228,9 +215,7 @@ fn raised(
         l,
         Best {
             gain: g,
-            edge: 0,
-            point: 0,
-            cut: 0,
+            ..Best::NONE
         },
     );
     c.gain
@@ -259,12 +244,10 @@ pub fn raise(
 {
     let mut tops = [UNKNOWN; POINTS];
     longest::row_of(el, onto, link, turn, s, &mut tops);
-    let mut k = 0;
-    while k < e {
+    for k in 0..e {
         bound[k] = raised(
             w, pts, n, macros, keys, el, onto, link, turn, s, k, &mut tops, bound[k],
         );
-        k += 1;
     }
 }
 
@@ -292,31 +275,11 @@ pub fn search(
     ensures bounded_2 { Bounded w pts.now n (macros_of macros.now) keys.now e el.now
         (longest keys.now el.now e n) n bound.new }
 {
-    let mut found = Best {
-        gain: 0,
-        edge: 0,
-        point: 0,
-        cut: 0,
-    };
-    let mut k = 0;
-    while k < e {
+    let mut found = Best::NONE;
+    for k in 0..e {
         found = ask(
-            w,
-            pts,
-            n,
-            macros,
-            keys,
-            e,
-            el,
-            most,
-            onto,
-            link,
-            turn,
-            &mut *bound,
-            k,
-            found,
+            w, pts, n, macros, keys, e, el, most, onto, link, turn, bound, k, found,
         );
-        k += 1;
     }
     found
 }

@@ -14,3 +14,13 @@ pub struct Best {
     pub point: usize,
     pub cut: usize,
 }
+
+impl Best {
+    // No candidate.
+    pub const NONE: Best = Best {
+        gain: 0,
+        edge: 0,
+        point: 0,
+        cut: 0,
+    };
+}

@@ -1,5 +1,5 @@
 -- The check of a net: rules C11 to C18, in the order of C60.
-use Rattle.std.specs.Prelude.{cond, ◌||◌, List, ℤ}
+use Rattle.std.specs.Prelude.{cond, ◌||◌, List, ℤ, Result}
 use Rattle.lists.specs.Any.{any, any_two}
 use Rattle.plane.specs.Place.{same_place}
 use Rattle.plane.specs.Macro.{interiors_meet}
@@ -7,13 +7,12 @@ use Rattle.plane.specs.Flat.{macros_of}
 use Rattle.lent.specs.Told.{Told, refused, given}
 use Rattle.net.specs.Bounds.{Bounds, today}
 use Rattle.net.specs.Pins.{pin_places}
-use Rattle.net.specs.Answer.{number}
+use Rattle.net.specs.Answer.{told_by}
 use Rattle.net.specs.Counts.{counts_of}
 use Rattle.net.specs.Tests.{pins_miscounted_within, macros_miscounted_within, out_of_range, pins_out_of_range, not_upright, inside_any, weights_wrong}
 use Rattle.net.specs.declared.Weighing.{Weighing}
 use Rattle.net.specs.declared.Net.{Net as Counts}
-use Rattle.checks.specs.declared.Checked.{Checked}
-use Rattle.checks.specs.declared.Checked.TheVariants.{Allowed, Refused}
+use Rattle.net.specs.declared.Refusal.{Refusal}
 
 -- C51, C60: each test is over the whole net, and the first that applies is the answer
 unfoldable pub checked_within : Bounds → Weighing → List ℤ → List ℤ → Told Counts
@@ -35,6 +34,5 @@ abbrev pub checked : Weighing → List ℤ → List ℤ → Told Counts
 checked = checked_within today
 
 -- what the code's answer says
-unfoldable pub told : Checked → Told Counts
-told (Allowed net) = given net
-told (Refused f) = refused (number f)
+abbrev pub told : Result Counts Refusal → Told Counts
+told = told_by (λ net. net)

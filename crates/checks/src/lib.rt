@@ -11,25 +11,16 @@ ghost use Rattle.net.specs.Tests.{out_of_range, place_out, no_load, pins_out_of_
 ghost use Rattle.checks.specs.Check.{checked, told};
 
 use net::{Net, Refusal, Weighing};
-use plane::Place;
-
-// The answer of the check.
-#[derive(Clone, Copy)]
-pub enum Checked {
-    Allowed(Net),
-    Refused(Refusal),
-}
+use plane::{Place, Weights};
 
 // Whether one of the numbers is farther from 0 than coordinates go.
 pub fn any_out_of_range(numbers: &[i32]) -> bool
     ensures { result ≡ any out_of_range numbers.now }
 {
-    let mut i = 0;
-    while i < numbers.len() {
-        if net::is_out_of_range(numbers[i]) {
+    for z in numbers {
+        if net::is_out_of_range(*z) {
             return true;
         }
-        i += 1;
     }
     false
 }
@@ -37,13 +28,10 @@ pub fn any_out_of_range(numbers: &[i32]) -> bool
 fn any_place_out(pins: &[i32]) -> bool
     ensures { result ≡ any place_out (pin_places pins.now) }
 {
-    let m = net::pin_count(pins);
-    let mut i = 0;
-    while i < m {
+    for i in 0..net::pin_count(pins) {
         if net::is_place_out(net::pin_at(pins, i)) {
             return true;
         }
-        i += 1;
     }
     false
 }
@@ -51,13 +39,10 @@ fn any_place_out(pins: &[i32]) -> bool
 fn any_no_load(pins: &[i32]) -> bool
     ensures { result ≡ any no_load (pin_loads pins.now) }
 {
-    let m = net::pin_count(pins);
-    let mut i = 0;
-    while i < m {
+    for i in 0..net::pin_count(pins) {
         if net::is_no_load(net::load_at(pins, i)) {
             return true;
         }
-        i += 1;
     }
     false
 }
@@ -72,13 +57,10 @@ fn are_pins_out(pins: &[i32]) -> bool
 fn any_not_upright(macros: &[i32]) -> bool
     ensures { result ≡ any not_upright (macros_of macros.now) }
 {
-    let k = net::macro_count(macros);
-    let mut i = 0;
-    while i < k {
+    for i in 0..net::macro_count(macros) {
         if net::is_not_upright(clear::macro_at(macros, i)) {
             return true;
         }
-        i += 1;
     }
     false
 }
@@ -87,13 +69,10 @@ fn any_not_upright(macros: &[i32]) -> bool
 pub fn is_among(p: Place, pins: &[i32], from: usize) -> bool
     ensures { result ≡ any (same_place p) (drop from (pin_places pins.now)) }
 {
-    let m = net::pin_count(pins);
-    let mut j = from;
-    while j < m {
+    for j in from..net::pin_count(pins) {
         if plane::is_same_place(p, net::pin_at(pins, j)) {
             return true;
         }
-        j += 1;
     }
     false
 }
@@ -101,35 +80,29 @@ pub fn is_among(p: Place, pins: &[i32], from: usize) -> bool
 fn any_same_place(pins: &[i32]) -> bool
     ensures { result ≡ any_two same_place (pin_places pins.now) }
 {
-    let m = net::pin_count(pins);
-    let mut i = 0;
-    while i < m {
+    for i in 0..net::pin_count(pins) {
         if is_among(net::pin_at(pins, i), pins, i + 1) {
             return true;
         }
-        i += 1;
     }
     false
 }
 
 // Whether two macros' interiors meet. The search for an overlap ends at the first pair found.
+// Kept: both loops are left by a label and not by `return`, the form that is asked for it (S13).
 fn any_overlap(macros: &[i32]) -> bool
     ensures { result ≡ any_two interiors_meet (macros_of macros.now) }
 {
     let k = net::macro_count(macros);
     let mut found = false;
-    let mut i = 0;
-    'search: while i < k {
+    'search: for i in 0..k {
         let m = clear::macro_at(macros, i);
-        let mut j = i + 1;
-        while j < k {
+        for j in i + 1..k {
             if clear::interiors_meet(m, clear::macro_at(macros, j)) {
                 found = true;
                 break 'search;
             }
-            j += 1;
         }
-        i += 1;
     }
     found
 }
@@ -138,52 +111,48 @@ fn any_overlap(macros: &[i32]) -> bool
 fn any_pin_inside(pins: &[i32], macros: &[i32]) -> bool
     ensures { result ≡ any (inside_any (macros_of macros.now)) (pin_places pins.now) }
 {
-    let m = net::pin_count(pins);
-    let mut i = 0;
-    while i < m {
+    for i in 0..net::pin_count(pins) {
         let p = net::pin_at(pins, i);
         if !clear::is_clear(p, p, macros) {
             return true;
         }
-        i += 1;
     }
     false
 }
 
 // Check a net: the first refusal that applies, each test over the whole net before the next begins.
-pub fn check(w: Weighing, pins: &[i32], macros: &[i32]) -> Checked
+#[tactic(auto, unfolding(net::specs::Answer::told_by, net::specs::Answer::number, crate::specs::Check::checked_within))]
+pub fn check(w: Weighing, pins: &[i32], macros: &[i32]) -> Result<Net, Refusal>
     ensures { told result ≡ checked w pins.now macros.now }
 {
     if net::pins_miscounted(pins) {
-        return Checked::Refused(Refusal::PinList);
+        return Err(Refusal::PinList);
     }
     if net::macros_miscounted(macros) {
-        return Checked::Refused(Refusal::MacroList);
+        return Err(Refusal::MacroList);
     }
     if are_pins_out(pins) {
-        return Checked::Refused(Refusal::Range);
+        return Err(Refusal::Range);
     }
     if any_out_of_range(macros) {
-        return Checked::Refused(Refusal::Range);
+        return Err(Refusal::Range);
     }
     if any_not_upright(macros) {
-        return Checked::Refused(Refusal::Sides);
+        return Err(Refusal::Sides);
     }
     if any_same_place(pins) {
-        return Checked::Refused(Refusal::SamePlace);
+        return Err(Refusal::SamePlace);
     }
     if any_overlap(macros) {
-        return Checked::Refused(Refusal::Overlap);
+        return Err(Refusal::Overlap);
     }
     if any_pin_inside(pins, macros) {
-        return Checked::Refused(Refusal::PinInside);
+        return Err(Refusal::PinInside);
     }
-    if net::are_weights_wrong(w) {
-        return Checked::Refused(Refusal::WeightRange);
-    }
-    Checked::Allowed(Net {
+    let weights = Weights::try_from(w)?;
+    Ok(Net {
         pins: net::pin_count(pins),
         macros: net::macro_count(macros),
-        weights: net::weights_of(w),
+        weights,
     })
 }

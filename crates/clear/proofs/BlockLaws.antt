@@ -21,6 +21,6 @@ any_left f zero xs e = e
 any_left f (suc i) [] e = e
 any_left f (suc i) (x ∷ xs) e = by (f x) (λ t. rw t refl) (λ t. rw t (any_left f i xs e))
 
-pub one-meets : (a b : Place) (s : List ℤ) (i : ℕ) → i * 4 + 4 ≤ length s → meets a b (macro_at s i) ≡ true
+pub one_meets : (a b : Place) (s : List ℤ) (i : ℕ) → i * 4 + 4 ≤ length s → meets a b (macro_at s i) ≡ true
     → any (meets a b) (macros_of s) ≡ true
-one-meets a b s i h e = any_left (meets a b) i (macros_of s) (any-hit _ _ _ _ (macros-next s i h) e)
+one_meets a b s i h e = any_left (meets a b) i (macros_of s) (any-hit _ _ _ _ (macros-next s i h) e)

@@ -2,7 +2,7 @@
 // other among the macros of a flat list.
 #![tactic(auto)]
 
-ghost use Rattle.std.specs.Prelude.{◌≡◌, true, ◌+◌, ◌*◌, ◌≤◌, length};
+ghost use Rattle.std.specs.Prelude.{◌≡◌, true, ◌+◌, ◌*◌, ◌≤◌, length, is_none};
 ghost use Rattle.lists.specs.Any.{any};
 ghost use Rattle.plane.specs.Macro.{span_meets, meets, open_spans_meet, interiors_meet, clear};
 ghost use Rattle.plane.specs.Flat.{macros_of, macro_at};
@@ -24,6 +24,7 @@ pub fn macro_at(macros: &[i32], i: usize) -> Macro
 }
 
 // The closed span of a and b meets the open one between from and to.
+#[tactic(auto, unfolding(plane::specs::Macro::span_meets))]
 fn span_meets(a: i32, b: i32, from: i32, to: i32) -> bool
     ensures { result ≡ span_meets a b from to }
 {
@@ -31,6 +32,7 @@ fn span_meets(a: i32, b: i32, from: i32, to: i32) -> bool
 }
 
 // The closed box of a and b meets the interior of m.
+#[tactic(auto, unfolding(plane::specs::Macro::meets))]
 pub fn box_meets(a: Place, b: Place, m: Macro) -> bool
     ensures { result ≡ meets a b m }
 {
@@ -38,6 +40,7 @@ pub fn box_meets(a: Place, b: Place, m: Macro) -> bool
 }
 
 // The open spans from a to b and from c to d meet.
+#[tactic(auto, unfolding(plane::specs::Macro::open_spans_meet))]
 fn open_spans_meet(a: i32, b: i32, c: i32, d: i32) -> bool
     ensures { result ≡ open_spans_meet a b c d }
 {
@@ -45,6 +48,7 @@ fn open_spans_meet(a: i32, b: i32, c: i32, d: i32) -> bool
 }
 
 // The interiors of m and n meet.
+#[tactic(auto, unfolding(plane::specs::Macro::interiors_meet))]
 pub fn interiors_meet(m: Macro, n: Macro) -> bool
     ensures { result ≡ interiors_meet m n }
 {
@@ -52,55 +56,41 @@ pub fn interiors_meet(m: Macro, n: Macro) -> bool
         && open_spans_meet(m.bottom, m.top, n.bottom, n.top)
 }
 
-// Whether two places are clear of each other, and the macro to ask first the next time: the one that blocks, if one does.
-#[derive(Clone, Copy)]
-pub struct Sight {
-    pub free: bool,
-    pub by: usize,
-}
-
 // The i-th macro is one that blocks.
+#[tactic(auto, using(crate::proofs::BlockLaws::one_meets))]
 fn is_blocked(a: Place, b: Place, macros: &[i32], i: usize) -> bool
     ensures { result ≡ true → any (meets a b) (macros_of macros.now) ≡ true }
 {
-    if i < macros.len() / 4 {
-        return box_meets(a, b, macro_at(macros, i));
-    }
-    false
+    i < macros.len() / 4 && box_meets(a, b, macro_at(macros, i))
 }
 
-// All macros are asked. Where none blocks, the answer names `by`.
-fn look_around(a: Place, b: Place, macros: &[i32], by: usize) -> Sight
-    ensures { result.free ≡ clear a b (macros_of macros.now) }
+// The first macro that blocks, of all; none where the box of a and b meets no macro's interior.
+fn look_around(a: Place, b: Place, macros: &[i32]) -> Option<usize>
+    ensures { is_none result ≡ clear a b (macros_of macros.now) }
 {
-    let k = macros.len() / 4;
-    let mut i = 0;
-    while i < k {
+    for i in 0..macros.len() / 4 {
         if box_meets(a, b, macro_at(macros, i)) {
-            return Sight { free: false, by: i };
+            return Some(i);
         }
-        i += 1;
     }
-    Sight { free: true, by: by }
+    None
 }
 
 // The box of a and b meets no macro's interior.
 pub fn is_clear(a: Place, b: Place, macros: &[i32]) -> bool
     ensures { result ≡ clear a b (macros_of macros.now) }
 {
-    let sight = look_around(a, b, macros, 0);
-    sight.free
+    look_around(a, b, macros).is_none()
 }
 
-// What `is_clear` says, whatever `by` is: the macro of that number is asked first, since what blocked once often blocks again.
-pub fn look(a: Place, b: Place, macros: &[i32], by: usize) -> Sight
-    ensures { result.free ≡ clear a b (macros_of macros.now) }
+// A macro that blocks, if one does, whatever `by` is: the macro of that number is asked first, since what blocked once often blocks again.
+#[tactic(auto, unfolding(plane::specs::Macro::clear))]
+pub fn look(a: Place, b: Place, macros: &[i32], by: usize) -> Option<usize>
+    ensures { is_none result ≡ clear a b (macros_of macros.now) }
 {
     if is_blocked(a, b, macros, by) {
-        return Sight {
-            free: false,
-            by: by,
-        };
+        Some(by)
+    } else {
+        look_around(a, b, macros)
     }
-    look_around(a, b, macros, by)
 }

@@ -27,8 +27,8 @@ ghost use Rattle.decoded.specs.Held.{
 };
 
 use blocks::{
-    BLOCK_BYTES, BLOCK_WORDS, FILE_BLOCKS, FILE_NUMBERS, FIRST_ENTRY, FIRST_WEIGHT_WORD,
-    LOADED_KIND, MACRO_COUNT_WORD, PER_BLOCK, PIN_COUNT_WORD, PLACE_NUMBERS, SECOND_WEIGHT_WORD,
+    BLOCK_BYTES, BLOCK_WORDS, FILE_BLOCKS, FILE_NUMBERS, FIRST_ENTRY, FIRST_WEIGHT_WORD, Kind,
+    MACRO_COUNT_WORD, PER_BLOCK, PIN_COUNT_WORD, PLACE_NUMBERS, SECOND_WEIGHT_WORD,
 };
 use net::Net;
 use plane::Weights;
@@ -37,24 +37,22 @@ use plane::Weights;
 const WEIGHT: usize = Net::WEIGHT as usize;
 
 // Not whole blocks, none, or more than the longest file has.
+#[tactic(auto, unfolding(crate::specs::Held::blocks_miscounted_within))]
 pub fn blocks_miscounted(bytes: &[u8]) -> bool
     ensures { result ≡ blocks_miscounted bytes.now }
 {
     let n = bytes.len() / BLOCK_BYTES;
-    (bytes.len() % BLOCK_BYTES != 0) | ((n == 0) | (FILE_BLOCKS < n))
+    bytes.len() % BLOCK_BYTES != 0 || n == 0 || FILE_BLOCKS < n
 }
 
-// So it is in some block.
+// Whether one of the last two words of a block is wrong, in any block.
 pub fn any_wrong_sums(bytes: &[u8]) -> bool
     ensures { result ≡ sums_wrong bytes.now }
 {
-    let n = bytes.len() / BLOCK_BYTES;
-    let mut b = 0;
-    while b < n {
+    for b in 0..bytes.len() / BLOCK_BYTES {
         if blocks::has_wrong_sums(blocks::block_at(bytes, b)) {
             return true;
         }
-        b += 1;
     }
     false
 }
@@ -71,10 +69,7 @@ pub fn head_word(bytes: &[u8], i: usize) -> usize
 fn are_loaded_in(bytes: &[u8]) -> bool
     ensures { result ≡ loaded_in bytes.now }
 {
-    if bytes.len() < BLOCK_BYTES + 4 {
-        return false;
-    }
-    blocks::word_at(bytes, BLOCK_WORDS) == LOADED_KIND
+    bytes.len() >= BLOCK_BYTES + 4 && blocks::word_at(bytes, BLOCK_WORDS) == Kind::Loaded.word()
 }
 
 // The numbers that are stored for the pins that the head counts.
@@ -84,9 +79,10 @@ fn pin_length(bytes: &[u8]) -> usize
 {
     let m = head_word(bytes, PIN_COUNT_WORD);
     if are_loaded_in(bytes) {
-        return m * Net::PIN_NUMBERS;
+        m * Kind::Loaded.width()
+    } else {
+        m * Kind::Pins.width()
     }
-    m * PLACE_NUMBERS
 }
 
 // The numbers of the macros that it counts.
@@ -114,7 +110,7 @@ fn weights_miswritten(bytes: &[u8]) -> bool
 {
     let first = head_word(bytes, FIRST_WEIGHT_WORD);
     let second = head_word(bytes, SECOND_WEIGHT_WORD);
-    (WEIGHT < first) | (WEIGHT < second)
+    WEIGHT < first || WEIGHT < second
 }
 
 // The head's counts or its weights are wrong.
@@ -122,7 +118,7 @@ pub fn head_wrong(bytes: &[u8]) -> bool
     requires { block_bytes ≤ length bytes.now }
     ensures { result ≡ head_wrong bytes.now }
 {
-    counts_wrong(bytes) | weights_miswritten(bytes)
+    counts_wrong(bytes) || weights_miswritten(bytes)
 }
 
 // The weights that the head has.
@@ -150,11 +146,8 @@ fn take_numbers(bytes: &[u8], b: usize, n: usize, numbers: &mut [i32])
     requires { ((b + blocks_for n) * block_bytes ≤ length bytes.now) × (n ≤ length numbers.old) }
     ensures { numbers.new ≡ over (numbers_in bytes.now b 0 n) numbers.old }
 {
-    let mut j = 0;
-    while j < n {
-        let z = number_in(bytes, b, j);
-        numbers[j] = z;
-        j += 1;
+    for j in 0..n {
+        numbers[j] = number_in(bytes, b, j);
     }
 }
 
@@ -163,11 +156,8 @@ fn put_bare(places: &[i32], pins: &mut [i32])
     requires { length (flat_pins (places_of places.now)) ≤ length pins.old }
     ensures { pins.new ≡ over (flat_pins (places_of places.now)) pins.old }
 {
-    let m = places.len() / PLACE_NUMBERS;
-    let mut i = 0;
-    while i < m {
-        net::put_bare_pin(&mut *pins, i, plane::place_at(places, i));
-        i += 1;
+    for i in 0..places.len() / PLACE_NUMBERS {
+        net::put_bare_pin(pins, i, plane::place_at(places, i));
     }
 }
 
@@ -179,12 +169,12 @@ fn take_pins(bytes: &[u8], pins: &mut [i32])
 {
     let n = pin_length(bytes);
     if are_loaded_in(bytes) {
-        take_numbers(bytes, 1, n, &mut *pins);
-        return;
+        take_numbers(bytes, 1, n, pins);
+    } else {
+        let mut places = [0i32; FILE_NUMBERS];
+        take_numbers(bytes, 1, n, &mut places);
+        put_bare(&places[..n], pins);
     }
-    let mut places = [0i32; FILE_NUMBERS];
-    take_numbers(bytes, 1, n, &mut places);
-    put_bare(&places[0..n], &mut *pins);
 }
 
 // The lists of a file whose head's counts fit its blocks, into tables that they fit.
@@ -196,6 +186,6 @@ pub fn take_lists(bytes: &[u8], pins: &mut [i32], macros: &mut [i32])
 {
     let n = pin_length(bytes);
     let k = macro_length(bytes);
-    take_pins(bytes, &mut *pins);
-    take_numbers(bytes, 1 + blocks::blocks_for(n), k, &mut *macros);
+    take_pins(bytes, pins);
+    take_numbers(bytes, 1 + blocks::blocks_for(n), k, macros);
 }

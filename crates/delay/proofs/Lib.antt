@@ -4,7 +4,6 @@ pub mod TimedLaws
 -- The tables of pins and of loads
 pub mod LoadedLaws
 -- The answer
-pub mod FindLaws
 pub mod ToldLaws
 -- From numbers of points to places
 pub mod AnswerLaws

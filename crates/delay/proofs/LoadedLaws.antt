@@ -7,7 +7,7 @@ use Prim.Native.Nat.{ℕ, ◌+◌, ◌<◌}
 use native.Mathlib.Omega.{arith}
 use lib.IntN.{ℤ}
 use lib.Dec.{eqb}
-use lib.ListN.{length, get_or, set}
+use lib.ListN.{length, set}
 use lib.Seq.{get_or-set_same, get_or-set_other}
 use borrow.Author.Tests.{eqb-true, eqb-false}
 use Rattle.lists.specs.Any.{any}
@@ -16,6 +16,7 @@ use Rattle.signed.specs.Sides.{up}
 use Rattle.plane.specs.declared.Place.{Place}
 use Rattle.plane.specs.Place.{same_place}
 use Rattle.plane.specs.Flat.{place_at}
+use Rattle.std.specs.Int.{from_bool}
 use Rattle.net.specs.Pins.{pin_places, pin_entries}
 use Rattle.delay.specs.Load.{load_of}
 use Rattle.floats.specs.Mark.{is_pin}
@@ -44,12 +45,12 @@ none-next f x left rest e h = or-none (f x) (any f rest) (sym (ap (any f) e) ∙
 
 -- The tables
 
-flag : (b : Bool) → eqb (cond b 1 0) 1 ≡ b
+flag : (b : Bool) → eqb (from_bool b) 1 ≡ b
 flag true = refl
 flag false = refl
 
 module _ {pins pts : List ℤ} (pin loads : List ℕ) (i : ℕ) (r : Loaded pins pts i pin loads) (few : i < length pin)
-    (fewer : i < length loads) (m l : ℕ) (mark : m ≡ cond (any (same_place (place_at pts i)) (pin_places pins)) 1 0)
+    (fewer : i < length loads) (m l : ℕ) (mark : m ≡ from_bool (any (same_place (place_at pts i)) (pin_places pins)))
     (load : l ≡ load_of (pin_entries pins) (place_at pts i)) where
   pub loaded-next : Loaded pins pts (i + 1) (set pin i m) (set loads i l)
   unfolding is_pin

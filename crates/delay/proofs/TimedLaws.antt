@@ -2,7 +2,7 @@
 -- every order of the edges and of the pins.
 -- Assumes nothing.
 use mathlib.Core.Path.{◌≡◌, refl, sym, ap, ap₂, ◌∙◌}
-use mathlib.Core.Bool.{true, false, cond, not}
+use mathlib.Core.Bool.{true, cond, not}
 use mathlib.Core.List.Memᴰ
 use mathlib.Core.List.{List, [], ◌∷◌, ◌++◌, map}
 use Prim.Native.Nat.{ℕ, zero, suc}
@@ -11,7 +11,7 @@ use lib.Ieee.{Float}
 use Rattle.lists.specs.Member.{◌∈◌, here, there, Among, Once}
 use Rattle.lists.specs.Sorted.{sorted}
 use Rattle.lists.specs.Those.{those}
-use Rattle.lists.proofs.TestLaws.{by, differ, either}
+use Rattle.lists.proofs.TestLaws.{by}
 use Rattle.lists.proofs.SortedLaws.{of-sorted, in-sorted, sorted-ascending, ascending-same}
 use Rattle.plane.specs.declared.Place.{Place}
 use Rattle.plane.specs.Place.{before, same_place}
@@ -21,7 +21,7 @@ use Rattle.plane.proofs.PlaceOrder.{place-order}
 use Rattle.joined.specs.Joined.{Inside}
 use Rattle.joined.specs.Tree.{TreeOn}
 use Rattle.floats.specs.declared.Technology.{Technology}
-use Rattle.floats.specs.declared.Delay.{Delay}
+use Rattle.floats.specs.Mark.{Delay}
 use Rattle.floats.specs.Float as float
 use Rattle.elmore.specs.Rooted.{Branches, none, branch, sprout, visited, children, hanging, rooted}
 use Rattle.elmore.specs.Elmore.{delay_of_child, delays, delay_in}

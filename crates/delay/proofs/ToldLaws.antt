@@ -12,7 +12,7 @@ use Rattle.lists.specs.Any.{any}
 use Rattle.lent.specs.Told.{refused, given}
 use Rattle.tree.specs.Table.{tree_bound}
 use Rattle.floats.specs.declared.Technology.{Technology}
-use Rattle.floats.specs.declared.Delay.{Delay}
+use Rattle.floats.specs.Mark.{Delay}
 use Rattle.floats.specs.Float as float
 use Rattle.elmore.specs.Elmore.{delays}
 use Rattle.floats.specs.Mark.{is_mark, usable}

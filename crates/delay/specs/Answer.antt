@@ -1,18 +1,16 @@
 -- What is answered for the pins: rules Y6, Y7 and C38 to C40.
-use Rattle.std.specs.Prelude.{Bool, cond, not, List, map, ℕ, ltb, length, Float}
+use Rattle.std.specs.Prelude.{Bool, cond, not, List, map, ℕ, ltb, length, Float, Result}
 use Rattle.lists.specs.Any.{any}
 use Rattle.lists.specs.Sorted.{sorted}
 use Rattle.lent.specs.Told.{Told, refused, given}
 use Rattle.plane.specs.declared.Place.{Place}
 use Rattle.plane.specs.Place.{before, same_place}
 use Rattle.plane.specs.Distance.{distance}
-use Rattle.net.specs.Answer.{number}
+use Rattle.net.specs.declared.Refusal.{Refusal}
+use Rattle.net.specs.Answer.{told_by}
 use Rattle.floats.specs.declared.Technology.{Technology}
-use Rattle.floats.specs.declared.Delay.{Delay}
-use Rattle.delay.specs.declared.Delayed.{Delayed}
-use Rattle.delay.specs.declared.Delayed.TheVariants as the
 use Rattle.floats.specs.Float.{zero}
-use Rattle.floats.specs.Mark.{marked, is_mark, usable}
+use Rattle.floats.specs.Mark.{Delay, marked, is_mark, usable}
 use Rattle.elmore.specs.Rooted.{rooted}
 use Rattle.elmore.specs.Elmore.{delays, delay_in}
 
@@ -40,6 +38,5 @@ delay_answer es load pins t driver room =
     delayed room (length pins) t (any (same_place driver) pins) (marks_of es load t driver pins)
 
 -- what the code's answer says
-unfoldable pub told_delays : Delayed → Told ℕ
-told_delays (the.Given m) = given m
-told_delays (the.Refused f) = refused (number f)
+abbrev pub told_delays : Result ℕ Refusal → Told ℕ
+told_delays = told_by (λ m. m)

@@ -16,37 +16,27 @@ use net::Refusal;
 use plane::Place;
 use tree::{NUMBERS, POINTS, Size};
 
-// The answer: how many delays were given, or why none.
-#[derive(Clone, Copy)]
-pub enum Delayed {
-    Given(usize),
-    Refused(Refusal),
-}
-
 // Whether point i is the pin at q.
+#[tactic(auto, unfolding(crate::specs::Table::is_driver, floats::specs::Mark::is_pin))]
 fn is_driver(pts: &[i32; NUMBERS], pin: &[usize; POINTS], q: Place, i: usize) -> bool
     requires { i < tree_bound }
     ensures { result ≡ is_driver pts.now pin.now q i }
 {
-    if pin[i] == 1 {
-        return plane::is_same_place(tree::point_at(pts, i), q);
-    }
-    false
+    pin[i] == 1 && plane::is_same_place(plane::place_at(pts, i), q)
 }
 
 // The number of the pin at q, or n.
+// Kept: n for none, since `delays` asks that there is one: it would only take an Option apart again.
 fn find(pts: &[i32; NUMBERS], pin: &[usize; POINTS], n: usize, q: Place) -> usize
     requires { n ≤ tree_bound }
     ensures { (result ≡ driver_in pts.now pin.now n q) × (result ≤ n) }
 {
-    let mut i = 0;
-    while i < n {
+    for i in 0..n {
         if is_driver(pts, pin, q, i) {
             return i;
         }
-        i += 1;
     }
-    i
+    n
 }
 
 // The delays to the m pins of a tree from the driver, which is one of them, in the order of places; all are worked out before the first is
@@ -61,7 +51,7 @@ pub fn delays(
     t: Technology,
     m: usize,
     lent: &mut [f64],
-) -> Delayed
+) -> Result<usize, Refusal>
     requires points_le_tree_bound { (z.points ≤ tree_bound) × ((z.edges ≤ tree_bound) × (m ≡ length (pins_from pin.now 0 z.points))) }
     requires m_in_bounds { (m ≤ length lent.old) × (driver_in pts.now pin.now z.points driver < z.points) }
     ensures result_value { told_delays result ≡ unless_marked m
@@ -84,8 +74,8 @@ pub fn delays(
         pts, keys, z.edges, loads, t, top, 0.0, &mut held, &mut whose, &mut table,
     );
     if floats::has_mark(&table, pin, z.points) {
-        return Delayed::Refused(Refusal::DelayNotFinite);
+        return Err(Refusal::DelayNotFinite);
     }
     floats::give(&table, pin, z.points, &mut *lent);
-    Delayed::Given(m)
+    Ok(m)
 }

@@ -1,10 +1,9 @@
 // The pins among a tree's points, and the loads of its points, from the list of pins.
-ghost use Rattle.std.specs.Prelude.{◌≡◌, false, cond, ◌≤◌, ◌<◌, length};
+ghost use Rattle.std.specs.Prelude.{◌≡◌, false, ◌≤◌, length};
 ghost use Rattle.lists.specs.Any.{any};
 ghost use Rattle.signed.specs.Sides.{up};
-ghost use Rattle.plane.specs.Place.{same_place};
 ghost use Rattle.net.specs.Tests.{no_load};
-ghost use Rattle.net.specs.Pins.{pin_places, pin_loads, pin_entries};
+ghost use Rattle.net.specs.Pins.{pin_loads, pin_entries};
 ghost use Rattle.tree.specs.Table.{tree_bound};
 ghost use Rattle.delay.specs.Load.{load_of};
 ghost use Rattle.delay.specs.Table.{Loaded};
@@ -20,43 +19,15 @@ fn unsigned(z: i32) -> u64
     z as u64
 }
 
-// Whether a pin is at q.
-pub fn is_pin(pins: &[i32], q: Place) -> bool
-    ensures { result ≡ any (same_place q) (pin_places pins.now) }
-{
-    let m = net::pin_count(pins);
-    let mut i = 0;
-    while i < m {
-        if plane::is_same_place(q, net::pin_at(pins, i)) {
-            return true;
-        }
-        i += 1;
-    }
-    false
-}
-
-// 1 where a pin is at q, otherwise 0.
-fn pin_mark(pins: &[i32], q: Place) -> usize
-    ensures { result ≡ cond (any (same_place q) (pin_places pins.now)) 1 0 }
-{
-    if is_pin(pins, q) {
-        return 1;
-    }
-    0
-}
-
 // The load of the pin at q, and 0 where no pin is.
 fn load_of(pins: &[i32], q: Place) -> u64
     requires { any no_load (pin_loads pins.now) ≡ false }
     ensures { result ≡ load_of (pin_entries pins.now) q }
 {
-    let m = net::pin_count(pins);
-    let mut i = 0;
-    while i < m {
+    for i in 0..net::pin_count(pins) {
         if plane::is_same_place(net::pin_at(pins, i), q) {
             return unsigned(net::load_at(pins, i));
         }
-        i += 1;
     }
     0
 }
@@ -73,11 +44,9 @@ pub fn load(
     requires pin_len { (length pin.old ≡ tree_bound) × (length loads.old ≡ tree_bound) }
     ensures { Loaded pins.now pts.now n pin.new loads.new }
 {
-    let mut i = 0;
-    while i < n {
-        let q = tree::point_at(pts, i);
-        pin[i] = pin_mark(pins, q);
+    for i in 0..n {
+        let q = plane::place_at(pts, i);
+        pin[i] = usize::from(net::is_pin(pins, q));
         loads[i] = load_of(pins, q);
-        i += 1;
     }
 }

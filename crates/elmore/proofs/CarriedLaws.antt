@@ -1,6 +1,6 @@
 -- The two passes do not depend on how points are named: what they make of a renamed tree is what they make of the tree, renamed.
 -- Assumes nothing.
-use Rattle.std.proofs.Common.{◌≡◌, ℕ, ◌<◌, Bool, true, false, cond, eqb, List, [], ◌∷◌, ◌++◌, map, length, get_or, set, sym, refl, ap, ◌∙◌, ap₂, arith, length-set, get_or-set_other, get_or-set_same, eqb-true}
+use Rattle.std.proofs.Common.{◌≡◌, ℕ, ◌<◌, Bool, cond, eqb, List, [], ◌∷◌, ◌++◌, map, length, get_or, set, sym, refl, ap, ◌∙◌, ap₂, length-set, get_or-set_other, get_or-set_same, eqb-true}
 use mathlib.Core.List.Memᴰ
 use lib.Ieee.{Float, nan}
 use borrow.Author.Tests.{eqb-false}

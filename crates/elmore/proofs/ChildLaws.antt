@@ -1,11 +1,10 @@
 -- The neighbours of a point are the points that an edge joins to it, in order, whatever the order of the edges; its children are those but
 -- its parent.
 -- Assumes nothing.
-use Rattle.std.proofs.Common.{◌≡◌, true, false, not, List, [], ◌∷◌, sym, refl, ap, ◌∙◌, ap₂, inl, inr}
+use Rattle.std.proofs.Common.{◌≡◌, true, not, List, [], ◌∷◌, sym, refl, ap, ◌∙◌, ap₂, inl, inr}
 use mathlib.Core.List.Memᴰ
 use Rattle.lists.specs.Member.{◌∈◌, here, there, Among, Once}
-use Rattle.lists.specs.Sorted.{put, Ascending}
-use Rattle.lists.specs.Those.{those}
+use Rattle.lists.specs.Sorted.{Ascending}
 use Rattle.lists.proofs.TestLaws.{by, differ, either, not-true}
 use Rattle.lists.proofs.SortedLaws.{of-put, put-old, put-new, put-ascending, ascending-once, ascending-same}
 use Rattle.lists.proofs.ThoseLaws.{in-those, of-those, those-once}

@@ -1,7 +1,7 @@
 -- The tables of a tree, whose points are in the order of places and whose edges are in the order of edges, hold the rooted tree of its
 -- edges. The scan of the edges finds the neighbours of a point in order: two edges at one point are in the order of their other ends.
 -- Assumes nothing.
-use Rattle.std.proofs.Common.{◌≡◌, ℕ, zero, suc, ◌+◌, ◌<◌, ◌≤◌, Bool, true, false, not, eqb, ltb, ◌⊎◌, List, [], ◌∷◌, map, length, get_or, ℤ, sym, refl, ap, ◌∙◌, ap₂, inl, inr, add-one, arith, ltb-false, ltb-true, le-ltb, lt-ltb, eq-eqb, ne_eqb, eqb-true}
+use Rattle.std.proofs.Common.{◌≡◌, ℕ, zero, suc, ◌+◌, ◌<◌, ◌≤◌, Bool, true, false, not, eqb, ltb, List, [], ◌∷◌, map, get_or, ℤ, sym, refl, ap, ◌∙◌, ap₂, add-one, arith, ltb-false, ltb-true, le-ltb, lt-ltb, eq-eqb, ne_eqb, eqb-true}
 use mathlib.Core.List.Memᴰ
 use borrow.Author.Tests.{eqb-false}
 use Rattle.lists.specs.Member.{◌∈◌, here, there}
@@ -18,7 +18,7 @@ use Rattle.plane.proofs.PlaceLaws.{same_true, same_refl, before-irrefl}
 use Rattle.tree.specs.Table.{tree_bound, first_end, second_end, Within}
 use Rattle.tree.specs.Places.{Ranked}
 use Rattle.tree.specs.Edges.{edges_from, table_edges}
-use Rattle.elmore.specs.Rooted.{Branches, renamed, Every, sprout, neighbours, children, hanging}
+use Rattle.elmore.specs.Rooted.{renamed, Every, sprout, neighbours, children, hanging}
 use Rattle.elmore.specs.Table.{other_end, child_at, children_from, hung}
 use Rattle.elmore.proofs.TableLaws.{other-first, other-second, other_none, child-parent, child-other}
 use Rattle.elmore.proofs.CarriedLaws.{sprout-renamed, sprout-every}

@@ -2,7 +2,7 @@
 -- leads back to the driver through the points it hangs from, and a tree has only one such way. So no child is a point above it, no
 -- point hangs from two children of one point, and following the way from the driver to any point goes from child to child.
 -- Assumes nothing.
-use Rattle.std.proofs.Common.{◌≡◌, ℕ, zero, suc, ◌+◌, ◌≤◌, ◌⊎◌, List, [], ◌∷◌, ◌++◌, length, sym, refl, ap, ◌∙◌, inl, inr, append_assoc, arith, length-append}
+use Rattle.std.proofs.Common.{◌≡◌, ℕ, zero, suc, ◌≤◌, ◌⊎◌, List, [], ◌∷◌, ◌++◌, length, sym, refl, ap, ◌∙◌, inl, inr, append_assoc, arith, length-append}
 use mathlib.Core.List.Memᴰ
 use Rattle.lists.specs.Member.{◌∈◌, here, there, Among, Once}
 use Rattle.lists.proofs.TestLaws.{either}
@@ -12,11 +12,11 @@ use Rattle.plane.proofs.PlaceOrder.{place_same}
 use Rattle.joined.specs.Joined.{Link, Inside}
 use Rattle.joined.specs.Tree.{TreeOn}
 use Rattle.joined.specs.Way.{Way, stop, go}
-use Rattle.joined.specs.OneTree.{OneTree, Simple}
+use Rattle.joined.specs.OneTree.{OneTree}
 use Rattle.joined.proofs.JoinedLaws.{turn}
 use Rattle.joined.proofs.WayLaws.{way-cast, way-last}
 use Rattle.joined.proofs.OneTreeLaws.{tree-one, tree-simple}
-use Rattle.elmore.specs.Rooted.{Branches, none, branch, sprout, visited, children, hanging, rooted}
+use Rattle.elmore.specs.Rooted.{Branches, sprout, visited, children, hanging, rooted}
 use Rattle.elmore.proofs.ChildLaws.{of-children, in-children, children-once}
 
 -- Lists

@@ -6,7 +6,7 @@ use Rattle.tree.specs.Table.{tree_bound, first_end, second_end}
 use Rattle.floats.specs.declared.Technology.{Technology}
 use Rattle.floats.specs.Float.{whole}
 use Rattle.elmore.specs.Rooted.{Branches, none, branch, sprout}
-use Rattle.elmore.specs.Elmore.{edge_value, with_child, child_delay, edge_resistance, edge_capacitance, capacitance, gathered}
+use Rattle.elmore.specs.Elmore.{with_child, child_delay, edge_resistance, edge_capacitance, capacitance, gathered}
 use Rattle.elmore.specs.Elmore.{delay_of_child, delays}
 use Rattle.elmore.specs.Table.{other_end, child_at, children_from, hung, stored}
 
@@ -33,19 +33,9 @@ unfolding child_at
 child-other k up p c o n = o ∙ rw (child_at, ne_eqb (other_end k p) up (λ e. n (o ∙ e))) refl
 
 -- 0.5 as the code has it
-pub half-bits : of_bits binary64 0x3fe0_0000_0000_0000 ≡ fin false 1 (negsuc 0)
+pub half_bits : of_bits binary64 0x3fe0_0000_0000_0000 ≡ fin false 1 (negsuc 0)
 unfolding of_bits
-half-bits = refl
-
-pub child-added : (sum child edge unit r : Float) (n m : ℕ) → r ≡ with_child sum child edge → edge ≡ edge_value unit n → n ≡ m
-    → r ≡ with_child sum child (edge_value unit m)
-child-added sum child edge unit r n m e f g = e ∙ ap (with_child sum child) (f ∙ ap (edge_value unit) g)
-
-pub child-delayed : (d child res edge x y r : Float) (n m : ℕ) → r ≡ child_delay d res edge child → res ≡ edge_value x n
-    → edge ≡ edge_value y n → n ≡ m → r ≡ child_delay d (edge_value x m) (edge_value y m) child
-child-delayed d child res edge x y r n m e f g h =
-    e ∙ ap (λ (z : Float). child_delay d z edge child) (f ∙ ap (edge_value x) h)
-    ∙ ap (λ (z : Float). child_delay d (edge_value x m) z child) (g ∙ ap (edge_value y) h)
+half_bits = refl
 
 -- What hangs from a point
 

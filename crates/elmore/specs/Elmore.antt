@@ -2,7 +2,7 @@
 -- whatever the net's weights, and `load` what a point's load is, 0 where it is no pin. Each operation rounds once, in the order written.
 use Rattle.std.specs.Prelude.{ℕ, Bool, cond, List, [], ◌∷◌, ◌++◌, Float}
 use Rattle.floats.specs.declared.Technology.{Technology}
-use Rattle.floats.specs.Float.{plus, times, half, whole, zero}
+use Rattle.floats.specs.Float.{plus, times, half, whole}
 use Rattle.elmore.specs.Rooted.{Branches, none, branch}
 
 abbrev pub technology : Float → Float → Technology

@@ -37,6 +37,7 @@ fn with_child(sum: f64, child: f64, edge: f64) -> f64
 }
 
 // A child's delay.
+#[tactic(auto, using(crate::proofs::TableLaws::half_bits))]
 fn child_delay(parent: f64, resistance: f64, edge: f64, child: f64) -> f64
     ensures { result ≡ child_delay parent resistance edge child }
 {
@@ -48,7 +49,7 @@ fn length(pts: &[i32; NUMBERS], a: usize, b: usize) -> u64
     requires { (a < tree_bound) × (b < tree_bound) }
     ensures { result ≡ apart_in pts.now a b }
 {
-    plane::distance(tree::point_at(pts, a), tree::point_at(pts, b))
+    plane::distance(plane::place_at(pts, a), plane::place_at(pts, b))
 }
 
 fn load(loads: &[u64; POINTS], p: usize) -> f64
@@ -117,17 +118,14 @@ pub fn capacitance(
         return sum;
     }
     let left = v.left - 1;
-    let mut k = 0;
-    while k < e {
-        let c = child_at(keys, k, v.up, p);
-        k += 1;
-        if c < POINTS {
+    for k in 0..e {
+        if let Some(c) = child_at(keys, k, v.up, p) {
             let w = Visit {
                 up: p,
                 point: c,
-                left: left,
+                left,
             };
-            let child = capacitance(pts, keys, e, loads, t, w, &mut *held, &mut *whose);
+            let child = capacitance(pts, keys, e, loads, t, w, held, whose);
             sum = add_child(pts, t, p, c, sum, child);
         }
     }
@@ -160,31 +158,17 @@ pub fn lay(
         return;
     }
     let left = v.left - 1;
-    let mut k = 0;
-    while k < e {
-        let c = child_at(keys, k, v.up, p);
-        k += 1;
-        if c < POINTS {
+    for k in 0..e {
+        if let Some(c) = child_at(keys, k, v.up, p) {
             let w = Visit {
                 up: p,
                 point: c,
-                left: left,
+                left,
             };
-            let child = capacitance(pts, keys, e, loads, t, w, &mut *held, &mut *whose);
+            let child = capacitance(pts, keys, e, loads, t, w, held, whose);
             let f = delay_below(pts, t, p, c, d, child);
             table[c] = f;
-            lay(
-                pts,
-                keys,
-                e,
-                loads,
-                t,
-                w,
-                f,
-                &mut *held,
-                &mut *whose,
-                &mut *table,
-            );
+            lay(pts, keys, e, loads, t, w, f, held, whose, table);
         }
     }
 }

@@ -1,10 +1,12 @@
 -- Pins as they are stored: how many numbers that takes, and that pins whose loads are all 0 are their places.
 -- Assumes nothing.
 use mathlib.Core.Path.{◌≡◌, refl, sym, ap, ap₂, ◌∙◌}
-use mathlib.Core.Bool.{true, false}
+use mathlib.Core.Bool.{true, false, not}
 use mathlib.Core.List.{List, [], ◌∷◌}
-use Prim.Native.Nat.{ℕ, ◌*◌, ◌%◌, ◌≤◌, ◌<◌}
+use Prim.Native.Nat.{ℕ, suc, ◌*◌, ◌-◌, ◌%◌, ◌≤◌, ◌<◌}
 use native.Mathlib.Omega.{arith}
+use Rattle.std.proofs.Common.{◌≢◌, eqb, eqb-true, ne_eqb, lt-ltb, le-ltb, w32, SFits, of_z, negsuc}
+use Rattle.std.proofs.lemmas.Bool.{eqb-false}
 use lib.IntN.{ℤ, pos}
 use lib.Signed.{lt_z}
 use lib.ListN.{length}
@@ -46,14 +48,20 @@ module _ (pins : List ℤ) where
   unfolding pin_count
   stored-few = either-kind (λ s. length s.numbers ≤ length pins) (λ e. omega arith) (λ e. omega (arith, length-alone))
 
-  -- entries have numbers, blocks a kind
-  pub stored-wide : 0 < (stored pins).width
-  stored-wide = either-kind (λ s. 0 < s.width) (λ e. omega arith) (λ e. omega arith)
-
+  -- blocks have a kind
   pub kind-small : (stored pins).kind < 4294967296
   kind-small = either-kind (λ s. s.kind < 4294967296) (λ e. omega arith) (λ e. omega arith)
 
 -- Without loads
+
+-- any number but 0 is a load
+pub load_is : (z : ℤ) → SFits w32 z → not (eqb (of_z w32 z) 0) ≡ is_load z
+unfolding is_load
+load_is (pos n) f =
+    by (eqb n 0)
+    (λ e. let h : n ≡ 0 = eqb-true n 0 e in rw h refl)
+    (λ e. let h : n ≢ 0 = eqb-false n 0 e in rw (e, le-ltb n 0 (omega arith), lt-ltb 0 n (omega arith)) refl)
+load_is (negsuc n) f = let h : 4294967296 - suc n ≢ 0 = omega (arith, f.sfits) in rw (ne_eqb _ 0 h) refl
 
 no-load : (z : ℤ) → is_load z ≡ false → z ≡ pos 0
 unfolding is_load

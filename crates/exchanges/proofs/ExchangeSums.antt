@@ -9,6 +9,8 @@ use native.Mathlib.Numerals.{add-one}
 use lib.Dec.{ltb}
 use lib.ListN.{length, get_or, set, length-set}
 use borrow.Author.Tests.{ltb-true, ltb-false, lt-ltb, le-ltb}
+use Rattle.std.specs.List.{CopiedTo, SameBelow, SameFrom}
+use Rattle.std.proofs.lemmas.List.{ext_get_or}
 use Rattle.lists.proofs.TestLaws.{by}
 use Rattle.lists.specs.Turns.{turns}
 use Rattle.tree.specs.Table.{key, first_end, second_end, Row}
@@ -55,6 +57,35 @@ shifts-high (suc n) k xs j h l =
     (λ t.
     let e : j ≡ k = omega (arith, ltb-false k j t) in
     shifts-low n (suc k) (shift k xs) j (omega arith) ∙ rw e (shift-here xs k))
+
+shifts-past : (n k : ℕ) (xs : List ℕ) (j : ℕ) → k + n ≤ j → get_or (turns shift k n xs) j 0 ≡ get_or xs j 0
+unfolding turns
+shifts-past zero k xs j h = refl
+shifts-past (suc n) k xs j h = shifts-past n (suc k) (shift k xs) j (omega arith) ∙ shift-other xs k j (λ e. let z : ⊥ = omega arith in z)
+
+shifts-length : (n k : ℕ) (xs : List ℕ) → length (turns shift k n xs) ≡ length xs
+unfolding turns shift
+shifts-length zero k xs = refl
+shifts-length (suc n) k xs = shifts-length n (suc k) (shift k xs) ∙ length-set xs k (get_or xs (suc k) 0)
+
+-- the entries behind k copied one to the front
+pub closed-copied : (k n src m : ℕ) (xs ys : List ℕ) → k ≤ n → src ≡ k + 1 → m ≡ n - k → length ys ≡ length xs
+    → SameBelow xs ys k → CopiedTo xs ys src k m → SameFrom xs ys (k + m) → ys ≡ closed k n xs
+unfolding closed
+closed-copied k n src m xs ys h a b l below copied past =
+    ext_get_or 0 ys (turns shift k (n - k) xs) (l ∙ sym (shifts-length (n - k) k xs))
+    (λ i _. by (ltb i k)
+    (λ t. let u : i < k = ltb-true i k t in below i 0 u ∙ sym (shifts-low (n - k) k xs i u))
+    (λ t.
+    let u : k ≤ i = ltb-false i k t in
+    by (ltb i n)
+    (λ v.
+    let w : i < n = ltb-true i n v in
+    let e : src + (i - k) ≡ suc i = omega arith in
+    copied i 0 u (omega arith) ∙ ap (λ (j : ℕ). get_or xs j 0) e ∙ sym (shifts-high (n - k) k xs i u (omega arith)))
+    (λ v.
+    let w : n ≤ i = ltb-false i n v in
+    past i 0 (omega arith) ∙ sym (shifts-past (n - k) k xs i (omega arith)))))
 
 pub closed_at : (k n : ℕ) (xs : List ℕ) (i : ℕ) → i < n → get_or (closed k n xs) i 0 ≡ get_or xs (skip k i) 0
 unfolding closed

@@ -2,14 +2,16 @@
 -- Assumes nothing.
 use mathlib.Core.Path.{◌≡◌, refl, sym, ap, ap₂, ◌∙◌}
 use mathlib.Core.Bool.{Bool, true, false, not}
-use mathlib.Core.List.{List, []}
-use Prim.Native.Nat.{ℕ, zero, suc, ◌+◌, ◌-◌, ◌*◌, ◌≤◌, ◌<◌}
+use mathlib.Core.List.{List}
+use Prim.Native.Nat.{ℕ, zero, suc, ◌+◌, ◌-◌, ◌*◌, ◌/◌, ◌%◌, ◌≤◌, ◌<◌}
 use native.Mathlib.Omega.{arith}
 use lib.Dec.{ltb}
 use lib.IntN.{ℤ, pos}
 use lib.ListN.{length, get_or, set, length-set}
 use lib.Seq.{get_or-set_same, get_or-set_other}
 use borrow.Author.Tests.{ltb-true, ltb-false, lt-ltb}
+use Rattle.std.specs.List.{CopiedTo, SameBelow, SameFrom}
+use Rattle.std.proofs.lemmas.List.{ext_get_or}
 use Rattle.lists.proofs.TestLaws.{by, differ, and_both}
 use Rattle.plane.specs.declared.Place.{Place}
 use Rattle.plane.specs.Place.{place, before, same_place}
@@ -37,6 +39,20 @@ place_other pts i j q n = ap₂ place (at (j * 2) (λ e. n (omega arith)) (λ e.
   where
     at : (k : ℕ) → (k ≡ i * 2 → ⊥) → (k ≡ i * 2 + 1 → ⊥) → get_or (set_point pts i q) k (pos 0) ≡ get_or pts k (pos 0)
     at k a b = get_or-set_other (set pts (i * 2) q.x) (i * 2 + 1) k q.y (pos 0) b ∙ get_or-set_other pts (i * 2) k q.x (pos 0) a
+
+-- two tables of the same places
+places_same : (xs ys : List ℤ) → length xs ≡ length ys → ((j : ℕ) → place_at xs j ≡ place_at ys j) → xs ≡ ys
+places_same xs ys l same =
+    ext_get_or (pos 0) xs ys l
+    (λ i _.
+    let j = i / 2 in
+    by (ltb (i % 2) 1)
+    (λ t.
+    let e : i ≡ j * 2 = omega (arith, ltb-true (i % 2) 1 t) in
+    rw e (ap (λ (p : Place). p.x) (same j)))
+    (λ t.
+    let e : i ≡ j * 2 + 1 = omega (arith, ltb-false (i % 2) 1 t) in
+    rw e (ap (λ (p : Place). p.y) (same j))))
 
 -- Places moved on, the one in hand first
 
@@ -70,6 +86,13 @@ pushed-high (suc c) i h j r l m =
     let k : i < j = ltb-true i j t in
     pushed-high c (suc i) (push i h) j room k (omega arith) ∙ place_other h.pts i j h.held (λ e. let y : ⊥ = omega arith in y))
     (λ t. let e : j ≡ i = omega (arith, ltb-false i j t) in rw e (pushed-first c (suc i) (push i h) (omega arith))))
+
+pushed-past : (c i : ℕ) (h : Hand) (j : ℕ) → i + c < j → place_at (closing (i + c) (turns push i c h)) j ≡ place_at h.pts j
+unfolding turns push closing
+pushed-past zero i h j l = place_other h.pts (i + 0) j h.held (λ e. let y : ⊥ = omega arith in y)
+pushed-past (suc c) i h j l =
+    let z : i + suc c ≡ suc i + c = omega arith in
+    rw z (pushed-past c (suc i) (push i h) j (omega arith) ∙ place_other h.pts i j h.held (λ e. let y : ⊥ = omega arith in y))
 
 pushed-length : (c i : ℕ) (h : Hand) → length (turns push i c h).pts ≡ length h.pts
 unfolding turns push
@@ -109,6 +132,50 @@ module _ (pts : List ℤ) (n p : ℕ) (s : Place) (hp : p ≤ n) (room : n * 2 +
   pub opened-past : (j : ℕ) → p < j → j < suc n → place_at (opened pts n p s) j ≡ place_at pts (j - 1)
   opened-past j h l = let e : j ≡ suc (j - 1) = omega arith in ap (place_at (opened pts n p s)) e ∙ opened-high (j - 1) (omega arith)
       (omega arith)
+
+  opened-beyond : (j : ℕ) → n < j → place_at (opened pts n p s) j ≡ place_at pts j
+  unfolding opened
+  opened-beyond j h = rw whole at (pushed-past (n - p) p (hand pts s) j (omega arith))
+
+  -- the numbers from p on copied two to the back, and s stored
+  pub opened-copied : (from to m : ℕ) (ys : List ℤ) → from ≡ p * 2 → to ≡ p * 2 + 2 → m ≡ n * 2 - p * 2 → length ys ≡ length pts
+      → SameBelow pts ys to → CopiedTo pts ys from to m → SameFrom pts ys (to + m) → set_point ys p s ≡ opened pts n p s
+  opened-copied from to m ys a b c l below copied past =
+      places_same (set_point ys p s) (opened pts n p s) (length-point ys p s ∙ l ∙ sym (opened-length pts n p s)) at
+    where
+      moved : (j : ℕ) → (p ≡ j → ⊥) → place_at (set_point ys p s) j ≡ place_at ys j
+      moved j q = place_other ys p j s q
+
+      at : (j : ℕ) → place_at (set_point ys p s) j ≡ place_at (opened pts n p s) j
+      at j =
+          by (ltb j p)
+          (λ t.
+          let u : j < p = ltb-true j p t in
+          moved j (λ e. let y : ⊥ = omega arith in y)
+          ∙ ap₂ place (below (j * 2) (pos 0) (omega arith)) (below (j * 2 + 1) (pos 0) (omega arith))
+          ∙ sym (opened-low j u))
+          (λ t.
+          let u : p ≤ j = ltb-false j p t in
+          by (ltb p j)
+          (λ v.
+          let w : p < j = ltb-true p j v in
+          by (ltb n j)
+          (λ x.
+          let z : n < j = ltb-true n j x in
+          moved j (λ e. let y : ⊥ = omega arith in y)
+          ∙ ap₂ place (past (j * 2) (pos 0) (omega arith)) (past (j * 2 + 1) (pos 0) (omega arith))
+          ∙ sym (opened-beyond j z))
+          (λ x.
+          let z : j ≤ n = ltb-false n j x in
+          let e : from + (j * 2 - to) ≡ (j - 1) * 2 = omega arith in
+          let f : from + (j * 2 + 1 - to) ≡ (j - 1) * 2 + 1 = omega arith in
+          moved j (λ e. let y : ⊥ = omega arith in y)
+          ∙ ap₂ place (copied (j * 2) (pos 0) (omega arith) (omega arith) ∙ ap (λ (k : ℕ). get_or pts k (pos 0)) e)
+          (copied (j * 2 + 1) (pos 0) (omega arith) (omega arith) ∙ ap (λ (k : ℕ). get_or pts k (pos 0)) f)
+          ∙ sym (opened-past j w (omega arith))))
+          (λ v.
+          let e : j ≡ p = omega (arith, ltb-false p j v) in
+          rw e (place_here ys p s (omega (arith, l)) ∙ sym opened-new)))
 
 -- The rank of s
 

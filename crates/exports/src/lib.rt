@@ -1,13 +1,15 @@
 // The router's operations for C: the static library. A slice passes as a pointer and a length, the weights as a number each. The caller
 // sees to it that each pointer has that length behind it, and that what is lent to be written overlaps nothing else that is handed over.
 // Each contract names one record of specs/Handed.antt: the code, each lent list and each number that goes through a pointer.
-#![tactic(auto)]
+#![tactic(auto, unfolding(net::specs::Answer::told_by, lent::specs::Told::code, lent::specs::Over::value_after))]
 
 ghost use Rattle.std.specs.Prelude.{◌≡◌, pos, length};
 ghost use Rattle.lent.specs.Told.{code};
+ghost use Rattle.lent.specs.Over.{value_after};
 ghost use Rattle.lent.specs.Entries.{flat};
 ghost use Rattle.plane.specs.Place.{place};
 ghost use Rattle.net.specs.Net.{weighing, weights_of, net_of};
+ghost use Rattle.net.specs.Answer.{told_by};
 ghost use Rattle.checks.specs.Check.{checked};
 ghost use Rattle.graph.specs.Numbers.{place_numbers, edge_numbers};
 ghost use Rattle.terminal.specs.Tree.{path_numbers};
@@ -28,18 +30,14 @@ ghost use Rattle.encoded.specs.Layout.{file_bytes};
 ghost use Rattle.decoded.specs.Held.{pins_in, macros_in};
 ghost use Rattle.netfile.specs.Write.{written};
 ghost use Rattle.netfile.specs.Read.{read_file};
+ghost use Rattle.router.specs.Answers.{told_tree};
 ghost use Rattle.exports.specs.Handed.{GraphHanded, PathsHanded, TreeHanded, BestHanded, ListHanded, SquareHanded};
 ghost use Rattle.exports.specs.Handed.{BoundHanded, ChargeHanded, SumsHanded, NetHanded};
 
-use bought::Verdict;
-use checks::Checked;
-use delay::Delayed;
 use floats::Technology;
-use net::Weighing;
-use netfile::Written;
+use net::{Refusal, Weighing};
 use plane::Place;
-use price::Priced;
-use router::{BoundAnswer, DistanceAnswer, Graphed, TerminalAnswer, TreeAnswer, Wired};
+use router::Tree;
 
 // The two weights as one.
 fn weighing(x: i32, y: i32) -> Weighing
@@ -55,7 +53,7 @@ fn weighing(x: i32, y: i32) -> Weighing
 fn place(x: i32, y: i32) -> Place
     ensures { result ≡ place x y }
 {
-    Place { x: x, y: y }
+    Place { x, y }
 }
 
 // The two numbers of a technology as one.
@@ -63,8 +61,45 @@ fn technology(resistance: f64, capacitance: f64) -> Technology
     ensures { result ≡ technology resistance capacitance }
 {
     Technology {
-        resistance: resistance,
-        capacitance: capacitance,
+        resistance,
+        capacitance,
+    }
+}
+
+// 0 and what the operation gives, or the number of the refusal.
+fn give<T: Copy>(answer: Result<T, Refusal>, place: &mut T) -> i32
+    ensures told { result ≡ pos (code (told_by (λ v. v) answer)) }
+    ensures value { place.new ≡ value_after (λ v. v) (told_by (λ v. v) answer) place.old }
+{
+    match answer {
+        Ok(value) => {
+            *place = value;
+            0
+        }
+        Err(refusal) => refusal.number(),
+    }
+}
+
+// 0 and the three numbers of a tree, or the number of the refusal.
+fn give_tree(
+    answer: Result<Tree, Refusal>,
+    count: &mut usize,
+    total: &mut i64,
+    metal: &mut i64,
+) -> i32
+    ensures told { result ≡ pos (code (told_tree answer)) }
+    ensures edges { count.new ≡ value_after (λ tree. tree.0) (told_tree answer) count.old }
+    ensures sum { total.new ≡ value_after (λ tree. tree.1.0) (told_tree answer) total.old }
+    ensures laid { metal.new ≡ value_after (λ tree. tree.1.1) (told_tree answer) metal.old }
+{
+    match answer {
+        Ok(tree) => {
+            *count = tree.edges;
+            *total = tree.total;
+            *metal = tree.metal;
+            0
+        }
+        Err(refusal) => refusal.number(),
     }
 }
 
@@ -74,10 +109,9 @@ pub extern "C" fn calzundi_check(pins: &[i32], macros: &[i32], x: i32, y: i32) -
     ensures { result ≡ pos (code (checked (weighing x y) pins.now macros.now)) }
 {
     let weights = weighing(x, y);
-    let answer = router::check(weights, pins, macros);
-    match answer {
-        Checked::Allowed(_) => 0,
-        Checked::Refused(refusal) => refusal.number(),
+    match router::check(weights, pins, macros) {
+        Ok(_) => 0,
+        Err(refusal) => refusal.number(),
     }
 }
 
@@ -102,14 +136,13 @@ pub extern "C" fn calzundi_graph(
         vertices.new edges.new v.new e.new }
 {
     let weights = weighing(x, y);
-    let answer = router::graph(weights, pins, macros, &mut *vertices, &mut *edges);
-    match answer {
-        Graphed::Given(vertex_count, edge_count) => {
-            *v = vertex_count;
-            *e = edge_count;
+    match router::graph(weights, pins, macros, vertices, edges) {
+        Ok(spanned) => {
+            *v = spanned.vertices;
+            *e = spanned.edges;
             0
         }
-        Graphed::Refused(refusal) => refusal.number(),
+        Err(refusal) => refusal.number(),
     }
 }
 
@@ -131,14 +164,13 @@ pub extern "C" fn calzundi_terminal_tree(
         paths.new count.new total.new }
 {
     let weights = weighing(x, y);
-    let answer = router::terminal_tree(weights, pins, macros, &mut *paths);
-    match answer {
-        TerminalAnswer::Given(given, sum) => {
-            *count = given;
-            *total = sum;
+    match router::terminal_tree(weights, pins, macros, paths) {
+        Ok(tree) => {
+            *count = tree.paths;
+            *total = tree.total;
             0
         }
-        TerminalAnswer::Refused(refusal) => refusal.number(),
+        Err(refusal) => refusal.number(),
     }
 }
 
@@ -161,16 +193,12 @@ pub extern "C" fn calzundi_refined_tree(
         edges.new count.new total.new metal.new }
 {
     let weights = weighing(x, y);
-    let answer = router::refined_tree(weights, pins, macros, &mut *edges);
-    match answer {
-        TreeAnswer::Given(given, cost, length) => {
-            *count = given;
-            *total = cost;
-            *metal = length;
-            0
-        }
-        TreeAnswer::Refused(refusal) => refusal.number(),
-    }
+    give_tree(
+        router::refined_tree(weights, pins, macros, edges),
+        count,
+        total,
+        metal,
+    )
 }
 
 // 0, the number of edges given, their total and the metal to lay, or the number of the refusal.
@@ -192,16 +220,12 @@ pub extern "C" fn calzundi_slid_tree(
         edges.new count.new total.new metal.new }
 {
     let weights = weighing(x, y);
-    let answer = router::slid_tree(weights, pins, macros, &mut *edges);
-    match answer {
-        TreeAnswer::Given(given, cost, length) => {
-            *count = given;
-            *total = cost;
-            *metal = length;
-            0
-        }
-        TreeAnswer::Refused(refusal) => refusal.number(),
-    }
+    give_tree(
+        router::slid_tree(weights, pins, macros, edges),
+        count,
+        total,
+        metal,
+    )
 }
 
 // 0, the number of edges given, their total and the metal to lay, or the number of the refusal.
@@ -223,16 +247,12 @@ pub extern "C" fn calzundi_best_tree(
         work.new edges.new count.new total.new metal.new }
 {
     let weights = weighing(x, y);
-    let answer = router::best_tree(weights, pins, macros, &mut *work, &mut *edges);
-    match answer {
-        TreeAnswer::Given(given, cost, length) => {
-            *count = given;
-            *total = cost;
-            *metal = length;
-            0
-        }
-        TreeAnswer::Refused(refusal) => refusal.number(),
-    }
+    give_tree(
+        router::best_tree(weights, pins, macros, work, edges),
+        count,
+        total,
+        metal,
+    )
 }
 
 // 0 and the lower bound, or the number of the refusal. Both lists of work are cleared.
@@ -252,14 +272,10 @@ pub extern "C" fn calzundi_lower_bound(
         left.new rows.new bound.new }
 {
     let weights = weighing(x, y);
-    let answer = router::lower_bound(weights, pins, macros, &mut *left, &mut *rows);
-    match answer {
-        BoundAnswer::Given(cost) => {
-            *bound = cost;
-            0
-        }
-        BoundAnswer::Refused(refusal) => refusal.number(),
-    }
+    give(
+        router::lower_bound(weights, pins, macros, left, rows),
+        bound,
+    )
 }
 
 // 0 and the number of wires given, or the number of the refusal.
@@ -278,14 +294,7 @@ pub extern "C" fn calzundi_wires(
         wires.old count.old result wires.new count.new }
 {
     let weights = weighing(x, y);
-    let answer = router::wires(weights, pins, macros, &mut *wires);
-    match answer {
-        Wired::Given(given) => {
-            *count = given;
-            0
-        }
-        Wired::Refused(refusal) => refusal.number(),
-    }
+    give(router::wires(weights, pins, macros, wires), count)
 }
 
 // 0 and how many numbers were given, or the number of the refusal.
@@ -303,14 +312,7 @@ pub extern "C" fn calzundi_grid_distances(
         table.old count.old result table.new count.new }
 {
     let weights = weighing(x, y);
-    let answer = router::grid_distances(weights, pins, macros, &mut *table);
-    match answer {
-        DistanceAnswer::Given(given) => {
-            *count = given;
-            0
-        }
-        DistanceAnswer::Refused(refusal) => refusal.number(),
-    }
+    give(router::grid_distances(weights, pins, macros, table), count)
 }
 
 // 0 and the number of delays given, or the number of the refusal. The driver's place is u and v.
@@ -337,14 +339,10 @@ pub extern "C" fn calzundi_delay(
     let weights = weighing(x, y);
     let driver = place(u, v);
     let t = technology(resistance, capacitance);
-    let answer = router::delay(weights, pins, macros, driver, t, &mut *delays);
-    match answer {
-        Delayed::Given(given) => {
-            *count = given;
-            0
-        }
-        Delayed::Refused(refusal) => refusal.number(),
-    }
+    give(
+        router::delay(weights, pins, macros, driver, t, delays),
+        count,
+    )
 }
 
 // 0 and the charge, in hundredths of the currency, or the number of the refusal.
@@ -362,14 +360,7 @@ pub extern "C" fn calzundi_price(
         charge.old result charge.new }
 {
     let weights = weighing(x, y);
-    let answer = router::price(weights, pins, macros, bands);
-    match answer {
-        Priced::Charged(hundredths) => {
-            *charge = hundredths;
-            0
-        }
-        Priced::Refused(refusal) => refusal.number(),
-    }
+    give(router::price(weights, pins, macros, bands), charge)
 }
 
 // 0, what the edges cost and their metal, or the number of the refusal.
@@ -388,14 +379,13 @@ pub extern "C" fn calzundi_check_tree(
         cost.old metal.old result cost.new metal.new }
 {
     let weights = weighing(x, y);
-    let answer = router::check_tree(weights, pins, macros, edges);
-    match answer {
-        Verdict::Passed(sum, length) => {
-            *cost = sum;
-            *metal = length;
+    match router::check_tree(weights, pins, macros, edges) {
+        Ok(sums) => {
+            *cost = sums.cost;
+            *metal = sums.metal;
             0
         }
-        Verdict::Refused(refusal) => refusal.number(),
+        Err(refusal) => refusal.number(),
     }
 }
 
@@ -415,14 +405,7 @@ pub extern "C" fn calzundi_write_file(
         bytes.old given.old result bytes.new given.new }
 {
     let weights = weighing(x, y);
-    let answer = router::write_file(weights, pins, macros, &mut *bytes);
-    match answer {
-        Written::Bytes(n) => {
-            *given = n;
-            0
-        }
-        Written::Refused(refusal) => refusal.number(),
-    }
+    give(router::write_file(weights, pins, macros, bytes), given)
 }
 
 // 0, the numbers of pins and macros and the two weights, or the number of the refusal.
@@ -443,19 +426,16 @@ pub extern "C" fn calzundi_read_file(
         pins.new macros.new
         (record { m = m.new; k = k.new; x = x.new; y = y.new }) }
 {
-    let answer = router::read_file(bytes, &mut *pins, &mut *macros);
-    match answer {
-        Checked::Allowed(net) => {
+    match router::read_file(bytes, pins, macros) {
+        Ok(net) => {
+            let weights = Weighing::from(net.weights);
             *m = net.pins;
             *k = net.macros;
-            let weights = net::handed(net.weights);
-            let first = weights.first;
-            let second = weights.second;
-            *x = first;
-            *y = second;
+            *x = weights.first;
+            *y = weights.second;
             0
         }
-        Checked::Refused(refusal) => refusal.number(),
+        Err(refusal) => refusal.number(),
     }
 }
 

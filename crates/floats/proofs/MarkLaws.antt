@@ -1,25 +1,24 @@
--- Floats tested by comparison, delays marked, and the marks of the pins given one after the other.
+-- Floats tested, delays marked, and the marks of the pins given one after the other.
 -- Assumes nothing.
-use mathlib.Core.Path.{◌≡◌, refl, sym, ap, ap₂, ◌∙◌}
-use mathlib.Core.Bool.{Bool, true, false, not, ◌&&◌, ◌||◌}
+use mathlib.Core.Path.{◌≡◌, refl, sym, ap, ◌∙◌}
+use mathlib.Core.Bool.{Bool, true, false, ◌&&◌, ◌||◌}
 use mathlib.Core.List.{List, [], ◌∷◌, ◌++◌, map, append_assoc, append-nil}
 use Prim.Native.Nat.{ℕ, suc, ◌+◌, ◌-◌, ◌≤◌, ◌<◌}
 use native.Mathlib.Omega.{arith}
-use lib.IntN.{pos}
 use lib.ListN.{length, get_or, set, length-append}
 use lib.Seq.{sets}
-use lib.Ieee.{Float, nan, inf, fin, binary64, of_bits, lt}
+use lib.Ieee.{Float, nan, inf, fin, binary64, of_bits}
+use Rattle.std.specs.Float.{float_is_finite}
+use Rattle.std.specs.Prelude.{Some, None}
+use Rattle.std.specs.Bool.{then_some}
 use lib.Dec.{eqb}
 use borrow.Author.Tests.{eq-eqb, ne_eqb, eqb-true, eqb-false}
 use Rattle.lists.specs.Any.{any}
-use Rattle.lists.proofs.TestLaws.{by, differ, and_left, and_right}
+use Rattle.lists.proofs.TestLaws.{by, and_left, and_right}
 use Rattle.lent.specs.Over.{over}
 use Rattle.lent.proofs.OverLaws.{over_none, over-more}
-use Rattle.floats.specs.declared.Technology.{Technology}
-use Rattle.floats.specs.declared.Delay.{Delay}
-use Rattle.floats.specs.declared.Delay.TheVariants.{Finite, NotFinite}
-use Rattle.floats.specs.Float.{zero, finite, positive}
-use Rattle.floats.specs.Mark.{marked, is_mark, finites, fair, usable, is_pin, pins_from, marks_from}
+use Rattle.floats.specs.Float.{zero, finite}
+use Rattle.floats.specs.Mark.{Delay, marked, is_mark, finites, is_pin, pins_from, marks_from}
 
 -- Tests
 
@@ -27,80 +26,43 @@ pub zero_bits : of_bits binary64 0 ≡ zero
 unfolding of_bits
 zero_bits = refl
 
--- below infinity, and above it with the other sign
-pub finite-below : (x : Float) → lt x (of_bits binary64 0x7ff0_0000_0000_0000) ≡ true
-    → lt (of_bits binary64 0xfff0_0000_0000_0000) x ≡ finite x
-unfolding of_bits lt finite
-finite-below nan e = refl
-finite-below (inf true) e = refl
-finite-below (inf false) e = differ e refl
-finite-below (fin s m d) e = refl
-
-pub finite-not : (x : Float) → lt x (of_bits binary64 0x7ff0_0000_0000_0000) ≡ false → false ≡ finite x
-unfolding of_bits lt finite
-finite-not nan e = refl
-finite-not (inf true) e = differ refl e
-finite-not (inf false) e = refl
-finite-not (fin s m d) e = differ refl e
-
--- two tests, the second only where the first passes
-pub both_if : (p q a r : Bool) → a ≡ p → a ≡ true → r ≡ q → r ≡ (p && q)
-both_if p q a r e f g = g ∙ ap (λ (b : Bool). b && q) (sym f ∙ e)
-
-pub both-not : (p q a : Bool) → a ≡ p → a ≡ false → false ≡ (p && q)
-both-not p q a e f = ap (λ (b : Bool). b && q) (sym f ∙ e)
-
-pub fair-if : (x : Float) (r : Bool) → lt (of_bits binary64 0) x ≡ true → r ≡ finite x → r ≡ fair x
-unfolding fair
-fair-if x r e f = both_if (positive x) (finite x) (lt (of_bits binary64 0) x) r (ap (λ (z : Float). lt z x) zero_bits) e f
-
-pub fair-not : (x : Float) → lt (of_bits binary64 0) x ≡ false → false ≡ fair x
-unfolding fair
-fair-not x e = both-not (positive x) (finite x) (lt (of_bits binary64 0) x) (ap (λ (z : Float). lt z x) zero_bits) e
-
-pub usable-if : (t : Technology) (a r : Bool) → a ≡ fair t.resistance → a ≡ true → r ≡ fair t.capacitance → r ≡ usable t
-unfolding usable
-usable-if t a r e f g = both_if (fair t.resistance) (fair t.capacitance) a r e f g
-
-pub usable-not : (t : Technology) (a : Bool) → a ≡ fair t.resistance → a ≡ false → false ≡ usable t
-unfolding usable
-usable-not t a e f = both-not (fair t.resistance) (fair t.capacitance) a e f
+-- the library's test
+pub finite_same : (x : Float) → float_is_finite x ≡ finite x
+unfolding float_is_finite finite
+finite_same nan = refl
+finite_same (inf s) = refl
+finite_same (fin s m d) = refl
 
 -- Marks
 
-pub marked-finite : (d : Float) (b : Bool) → b ≡ finite d → b ≡ true → Finite d ≡ marked d
+pub marked_same : (d : Float) → then_some (float_is_finite d) d ≡ marked d
 unfolding marked
-marked-finite d b e f = rw (marked, sym e ∙ f) refl
+marked_same d = by (finite d) (λ e. rw (finite_same d, marked, e) refl) (λ e. rw (finite_same d, marked, e) refl)
 
-pub marked-not : (d : Float) (b : Bool) → b ≡ finite d → b ≡ false → NotFinite ≡ marked d
-unfolding marked
-marked-not d b e f = rw (marked, sym e ∙ f) refl
-
-pub put-finite : (d : Delay) (x : Float) (k : ℕ) (lent : List Float) → d ≡ Finite x
-    → (k + 1 ≡ k + length (finites (d ∷ []))) × (set lent k x ≡ sets lent k (finites (d ∷ [])))
+put-finite : (x : Float) (k : ℕ) (lent : List Float)
+    → (k + 1 ≡ k + length (finites (Some x ∷ []))) × (set lent k x ≡ sets lent k (finites (Some x ∷ [])))
 unfolding finites
-put-finite d x k lent e = rw e (omega arith, refl)
+put-finite x k lent = (omega arith, refl)
 
-pub put-mark : (d : Delay) (k : ℕ) (lent : List Float) → d ≡ NotFinite
-    → (k ≡ k + length (finites (d ∷ []))) × (lent ≡ sets lent k (finites (d ∷ [])))
+put-mark : (k : ℕ) (lent : List Float) → (k ≡ k + length (finites (None ∷ []))) × (lent ≡ sets lent k (finites (None ∷ [])))
 unfolding finites
-put-mark d k lent e = rw e (omega arith, refl)
+put-mark k lent = (omega arith, refl)
 
 finites-next : (d : Delay) (l : List Delay) → finites (d ∷ l) ≡ finites (d ∷ []) ++ finites l
 unfolding finites
-finites-next (Finite x) l = refl
-finites-next NotFinite l = refl
+finites-next (Some x) l = refl
+finites-next None l = refl
 
 finites-few : (d : Delay) → length (finites (d ∷ [])) ≤ 1
 unfolding finites
-finites-few (Finite x) = omega arith
-finites-few NotFinite = omega arith
+finites-few (Some x) = omega arith
+finites-few None = omega arith
 
 put-over : (d : Delay) (done lent : List Float) (k : ℕ) → length done ≡ k → k < length lent
     → sets (over done lent) k (finites (d ∷ [])) ≡ over (done ++ finites (d ∷ [])) lent
 unfolding finites
-put-over (Finite x) done lent k e h = over-more done lent k x e h
-put-over NotFinite done lent k e h = ap (λ (l : List Float). over l lent) (sym (append-nil done))
+put-over (Some x) done lent k e h = over-more done lent k x e h
+put-over None done lent k e h = ap (λ (l : List Float). over l lent) (sym (append-nil done))
 
 -- The pins, from number i on
 
@@ -133,25 +95,9 @@ marks-end table pin i n h = let z : n - i ≡ 0 = omega arith in rw z refl
 marks-all : (table : List Float) (pin : List ℕ) (n : ℕ) → marks_from table pin 0 (n - 0) ≡ marks_from table pin 0 n
 marks-all table pin n = let z : n - 0 ≡ n = omega arith in ap (marks_from table pin 0) z
 
--- one pin's test
-pub pin-marked : (table : List Float) (pin : List ℕ) (i : ℕ) (d : Delay) (r : Bool) → get_or pin i 0 ≡ 1 → d ≡ marked (get_or table i nan)
-    → r ≡ is_mark d → r ≡ (is_pin pin i && is_mark (marked (get_or table i nan)))
-unfolding is_pin
-pin-marked table pin i d r e f g =
-    both_if (is_pin pin i) (is_mark (marked (get_or table i nan))) true r (sym (eq-eqb (get_or pin i 0) 1 e)) refl (g ∙ ap is_mark f)
-
-pub pin-none : (table : List Float) (pin : List ℕ) (i : ℕ) → (get_or pin i 0 ≡ 1 → ⊥)
-    → false ≡ (is_pin pin i && is_mark (marked (get_or table i nan)))
-unfolding is_pin
-pin-none table pin i e =
-    both-not (is_pin pin i) (is_mark (marked (get_or table i nan))) false (sym (ne_eqb (get_or pin i 0) 1 e)) refl
-
 -- The search for a mark: the whole search ≡ the search from here on
 
 module _ (table : List Float) (pin : List ℕ) where
-  pub mark-all : (n : ℕ) → any is_mark (marks_from table pin 0 (n - 0)) ≡ any is_mark (marks_from table pin 0 n)
-  mark-all n = ap (any is_mark) (marks-all table pin n)
-
   pub mark-stop : (i n : ℕ) (all : Bool) → any is_mark (marks_from table pin i (n - i)) ≡ all → i < n
       → (is_pin pin i && is_mark (marked (get_or table i nan))) ≡ true → true ≡ all
   unfolding any is_pin
@@ -203,7 +149,7 @@ module _ (table : List Float) (pin : List ℕ) (n : ℕ) (lent₀ : List Float) 
     pub filled-room : i < n → get_or pin i 0 ≡ 1 → length (pins_from pin 0 n) ≤ length lent₀ → k < length lent₀
     filled-room h e r = omega (arith, f.room, r, ap length (pins-hit pin i n h e))
 
-    pub filled-hit : (d : Delay) (next : List Float) (j : ℕ) → i < n → get_or pin i 0 ≡ 1 → length (pins_from pin 0 n) ≤ length lent₀
+    filled-hit : (d : Delay) (next : List Float) (j : ℕ) → i < n → get_or pin i 0 ≡ 1 → length (pins_from pin 0 n) ≤ length lent₀
         → d ≡ marked (get_or table i nan) → j ≡ k + length (finites (d ∷ [])) → next ≡ sets lent k (finites (d ∷ []))
         → Filled table pin n lent₀ next j (i + 1)
     filled-hit d next j h e r m c w = record {
@@ -220,6 +166,14 @@ module _ (table : List Float) (pin : List ℕ) (n : ℕ) (lent₀ : List Float) 
       where
         left : List Delay
         left = marks_from table pin (i + 1) (n - (i + 1))
+
+    pub filled-some : (x : Float) → i < n → get_or pin i 0 ≡ 1 → length (pins_from pin 0 n) ≤ length lent₀
+        → Some x ≡ marked (get_or table i nan) → Filled table pin n lent₀ (set lent k x) (k + 1) (i + 1)
+    filled-some x h e r m = let p = put-finite x k lent in filled-hit (Some x) (set lent k x) (k + 1) h e r m p.0 p.1
+
+    pub filled-mark : i < n → get_or pin i 0 ≡ 1 → length (pins_from pin 0 n) ≤ length lent₀ → None ≡ marked (get_or table i nan)
+        → Filled table pin n lent₀ lent k (i + 1)
+    filled-mark h e r m = let p = put-mark k lent in filled-hit None lent k h e r m p.0 p.1
 
     pub filled-miss : i < n → (get_or pin i 0 ≡ 1 → ⊥) → Filled table pin n lent₀ lent k (i + 1)
     filled-miss h e = record {

@@ -1,24 +1,25 @@
 -- Floats tested, delays marked, and the marks of a table's pins: rules Y7 and C38.
-use Rattle.std.specs.Prelude.{Bool, true, false, ◌&&◌, List, [], ◌∷◌, map, ℕ, zero, suc, ◌+◌, eqb, get_or, Float}
+use Rattle.std.specs.Prelude.{Bool, true, false, ◌&&◌, List, [], ◌∷◌, map, ℕ, zero, suc, ◌+◌, eqb, get_or, Option, Some, None, Float}
 use Rattle.std.specs.Float.{nan}
 use Rattle.floats.specs.declared.Technology.{Technology}
-use Rattle.floats.specs.declared.Delay.{Delay}
-use Rattle.floats.specs.declared.Delay.TheVariants.{Finite, NotFinite}
 use Rattle.floats.specs.Float.{finite, positive}
 
--- Y7: a delay, or the mark that it is not finite
+-- Y7: a delay, or the mark None that it is not finite
+abbrev pub Delay : Type 0
+Delay = Option Float
+
 unfoldable pub marked : Float → Delay
-marked d = elim (finite d) [ true ↦ Finite d | false ↦ NotFinite ]
+marked d = elim (finite d) [ true ↦ Some d | false ↦ None ]
 
 unfoldable pub is_mark : Delay → Bool
-is_mark (Finite d) = false
-is_mark NotFinite = true
+is_mark (Some d) = false
+is_mark None = true
 
 -- the delays among them
 unfoldable pub finites : List Delay → List Float
 finites [] = []
-finites (Finite d ∷ l) = d ∷ finites l
-finites (NotFinite ∷ l) = finites l
+finites (Some d ∷ l) = d ∷ finites l
+finites (None ∷ l) = finites l
 
 -- C38: both numbers are finite and above zero
 unfoldable pub fair : Float → Bool

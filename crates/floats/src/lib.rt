@@ -19,73 +19,37 @@ pub struct Technology {
     pub capacitance: f64,
 }
 
-// The delay to a pin, or the mark that it is not finite.
-#[derive(Clone, Copy)]
-pub enum Delay {
-    Finite(f64),
-    NotFinite,
-}
-
-// Neither an infinity nor not a number.
-fn is_finite(x: f64) -> bool
-    ensures { result ≡ finite x }
-{
-    let infinity = f64::from_bits(0x7ff0_0000_0000_0000);
-    if x < infinity {
-        return f64::from_bits(0xfff0_0000_0000_0000) < x;
-    }
-    false
-}
-
 // Above zero, and finite.
+#[tactic(auto, using(crate::proofs::MarkLaws::finite_same, crate::proofs::MarkLaws::zero_bits), unfolding(crate::specs::Mark::fair))]
 fn is_fair(x: f64) -> bool
     ensures { result ≡ fair x }
 {
-    if 0.0 < x {
-        return is_finite(x);
-    }
-    false
+    0.0 < x && x.is_finite()
 }
 
 // Whether both numbers of a technology are above zero, and finite.
+#[tactic(auto, unfolding(crate::specs::Mark::usable))]
 pub fn is_usable(t: Technology) -> bool
     ensures { result ≡ usable t }
 {
-    if is_fair(t.resistance) {
-        return is_fair(t.capacitance);
-    }
-    false
+    is_fair(t.resistance) && is_fair(t.capacitance)
 }
 
-// The delay, or the mark that it is not finite.
-fn marked(d: f64) -> Delay
+// The delay to a pin; None, the mark, where it is not finite.
+#[tactic(auto, using(crate::proofs::MarkLaws::marked_same))]
+fn marked(d: f64) -> Option<f64>
     ensures { result ≡ marked d }
 {
-    if is_finite(d) {
-        return Delay::Finite(d);
-    }
-    Delay::NotFinite
-}
-
-// Whether the delay is a mark.
-fn is_mark(d: Delay) -> bool
-    ensures { result ≡ is_mark d }
-{
-    match d {
-        Delay::Finite(_) => false,
-        Delay::NotFinite => true,
-    }
+    d.is_finite().then_some(d)
 }
 
 // Whether point i is a pin with a mark.
+#[tactic(auto, unfolding(crate::specs::Mark::is_pin, crate::specs::Mark::is_mark))]
 fn is_marked_pin(table: &[f64; POINTS], pin: &[usize; POINTS], i: usize) -> bool
     requires { i < tree_bound }
     ensures { result ≡ is_pin pin.now i && is_mark (marked (get_or table.now i nan)) }
 {
-    if pin[i] == 1 {
-        return is_mark(marked(table[i]));
-    }
-    false
+    pin[i] == 1 && marked(table[i]).is_none()
 }
 
 // Whether a pin among the first n points has a mark.
@@ -93,42 +57,26 @@ pub fn has_mark(table: &[f64; POINTS], pin: &[usize; POINTS], n: usize) -> bool
     requires { n ≤ tree_bound }
     ensures { result ≡ any is_mark (marks_from table.now pin.now 0 n) }
 {
-    let mut i = 0;
-    while i < n {
+    for i in 0..n {
         if is_marked_pin(table, pin, i) {
             return true;
         }
-        i += 1;
     }
     false
 }
 
-// The delay as the k-th of a list, unless it is a mark; how many there are then.
-fn put(lent: &mut [f64], k: usize, d: Delay) -> usize
-    requires { k < length lent.old }
-    ensures { (result ≡ k + length (finites (d ∷ []))) × (lent.new ≡ sets lent.old k (finites (d ∷ []))) }
-{
-    match d {
-        Delay::Finite(x) => {
-            lent[k] = x;
-            k + 1
-        }
-        Delay::NotFinite => k,
-    }
-}
-
-// The delays of the pins among the first n points, in the order of places.
+// The delays of the pins among the first n points, in the order of places, and none for a mark.
 pub fn give(table: &[f64; POINTS], pin: &[usize; POINTS], n: usize, lent: &mut [f64])
     requires { (n ≤ tree_bound) × (length (pins_from pin.now 0 n) ≤ length lent.old) }
     ensures { lent.new ≡ over (finites (marks_from table.now pin.now 0 n)) lent.old }
 {
     let mut k = 0;
-    let mut i = 0;
-    while i < n {
-        let q = i;
-        i += 1;
-        if pin[q] == 1 {
-            k = put(&mut *lent, k, marked(table[q]));
+    for i in 0..n {
+        if pin[i] == 1 {
+            if let Some(x) = marked(table[i]) {
+                lent[k] = x;
+                k += 1;
+            }
         }
     }
 }

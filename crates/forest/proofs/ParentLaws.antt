@@ -2,14 +2,14 @@
 -- and what a scan finds: a step that leads, over an edge of the graph.
 -- Assumes nothing.
 use mathlib.Core.Path.{◌≡◌, refl, sym, ap, ap₂, ◌∙◌}
-use mathlib.Core.Bool.{Bool, true, false, ◌&&◌}
+use mathlib.Core.Bool.{true, false, ◌&&◌}
 use mathlib.Core.Logic.{◌⊎◌, inl, inr}
 use mathlib.Core.List.Memᴰ
 use mathlib.Core.List.{List, [], ◌∷◌}
 use Prim.Native.Nat.{ℕ, ◌+◌, ◌-◌, ◌≤◌, ◌<◌}
 use native.Mathlib.Omega.{arith}
 use lib.Dec.{ltb, eqb}
-use lib.ListN.{length, get_or, set, length-set, length-replicate, get_or-replicate}
+use lib.ListN.{length, get_or, length-set, length-replicate, get_or-replicate}
 use lib.Seq.{get_or-set_same, get_or-set_other, ext_get_or}
 use borrow.Author.Tests.{eq-eqb, eqb-true, eqb-false, lt-ltb, le-ltb, ltb-true, ltb-false}
 use Rattle.lists.specs.Member.{◌∈◌, here, there}
@@ -34,15 +34,6 @@ abbrev Sized : Parents → Type 0
 Sized p = (length p.ups ≡ point_bound) × (length p.vias ≡ point_bound)
 
 module _ (n : ℕ) (t : Labels) (v w k d : ℕ) (p : Parents) where
-  pub adopt-yes : (m : Bool) → m ≡ leads t w v d → (ltb v n && (m && ltb w (up p v))) ≡ true →
-      parents (set p.ups v w) (set p.vias v k) ≡ adopt_by n t v w k d p
-  unfolding adopt_by
-  adopt-yes m is h = let e : (ltb v n && (leads t w v d && ltb w (up p v))) ≡ true = rw (← is) h in rw (adopt_by, e) refl
-
-  pub adopt-no : (m : Bool) → m ≡ leads t w v d → (ltb v n && (m && ltb w (up p v))) ≡ false → p ≡ adopt_by n t v w k d p
-  unfolding adopt_by
-  adopt-no m is h = let e : (ltb v n && (leads t w v d && ltb w (up p v))) ≡ false = rw (← is) h in rw (adopt_by, e) refl
-
   adopt-sized : Sized p → Sized (adopt_by n t v w k d p)
   unfolding adopt_by
   adopt-sized z =

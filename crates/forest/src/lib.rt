@@ -16,6 +16,7 @@ pub const POINTS: usize = Net::POINTS;
 pub const EDGES: usize = Net::EDGES;
 
 // The distance of a vertex that no source has reached: above every way's, which has fewer edges than there are points.
+// Kept: a distance UNREACHED, a parent POINTS and its edge EDGES mean none, as `unlabelled` and `orphans` say, which theorems name.
 pub const UNREACHED: u64 = Net::POINTS as u64 * Net::COST;
 
 // A step from a vertex to a neighbour, and the edge over which it goes.
@@ -25,19 +26,15 @@ pub struct Step {
     pub via: usize,
 }
 
+#[tactic(auto, unfolding(crate::specs::Labels::better))]
 fn is_better(f: u64, r: usize, g: u64, s: usize) -> bool
     ensures { result ≡ better f r g s }
 {
-    if f < g {
-        return true;
-    }
-    if g < f {
-        return false;
-    }
-    r < s
+    (f, r) < (g, s)
 }
 
 // v takes u's label, d farther, where that is better; whether it did.
+#[tactic(auto, unfolding(crate::specs::Labels::gains, crate::specs::Labels::offer))]
 fn offer(far: &mut [u64; POINTS], root: &mut [usize; POINTS], u: usize, v: usize, d: u64) -> bool
     requires u_lt_point_bound { (u < point_bound) × (v < point_bound) }
     requires low { (Low far.old) × (d ≤ cost_bound) }
@@ -46,12 +43,12 @@ fn offer(far: &mut [u64; POINTS], root: &mut [usize; POINTS], u: usize, v: usize
 {
     let f = far[u] + d;
     let r = root[u];
-    if is_better(f, r, far[v], root[v]) {
+    let is_gain = is_better(f, r, far[v], root[v]);
+    if is_gain {
         far[v] = f;
         root[v] = r;
-        return true;
     }
-    false
+    is_gain
 }
 
 // Two vertices with an edge of length d offer their labels to each other; whether one was taken.
@@ -69,8 +66,8 @@ fn relax_edge(
     ensures root_after { labels far.new root.new
         ≡ offer b a d (offer a b d (labels far.old root.old)) }
 {
-    let there = offer(&mut *far, &mut *root, a, b, d);
-    let back = offer(&mut *far, &mut *root, b, a, d);
+    let there = offer(far, root, a, b, d);
+    let back = offer(far, root, b, a, d);
     there | back
 }
 
@@ -90,11 +87,8 @@ fn relax_all(
         (from 0 e) (labels far.old root.old) }
 {
     let mut moved = false;
-    let mut k = 0;
-    while k < e {
-        let m = relax_edge(&mut *far, &mut *root, ea[k], eb[k], el[k]);
-        moved = moved | m;
-        k += 1;
+    for k in 0..e {
+        moved |= relax_edge(far, root, ea[k], eb[k], el[k]);
     }
     moved
 }
@@ -113,12 +107,10 @@ fn settle(
     ensures { labels far.new root.new ≡ settled n
         (graph ea.now eb.now el.now e) (from 0 e) (labels far.old root.old) }
 {
-    let mut i = 0;
-    while i < n {
-        if !relax_all(ea, eb, el, e, &mut *far, &mut *root) {
+    for _ in 0..n {
+        if !relax_all(ea, eb, el, e, far, root) {
             return;
         }
-        i += 1;
     }
 }
 
@@ -128,25 +120,24 @@ fn start(sources: &[usize; POINTS], m: usize, far: &mut [u64; POINTS], root: &mu
     ensures { labels far.new root.new ≡ starts (entries sources.now 0 m)
         (labels far.old root.old) }
 {
-    let mut i = 0;
-    while i < m {
-        let s = sources[i];
+    for &s in &sources[..m] {
         far[s] = 0;
         root[s] = s;
-        i += 1;
     }
 }
 
 // Whether w has v's root and a shortest way of v runs through w, over an edge of length d.
+#[tactic(auto, unfolding(crate::specs::Parents::leads))]
 fn leads(far: &[u64; POINTS], root: &[usize; POINTS], w: usize, v: usize, d: u64) -> bool
     requires w_lt_point_bound { (w < point_bound) × (v < point_bound) }
     requires low { (Low far.now) × (d ≤ cost_bound) }
     ensures { result ≡ leads (labels far.now root.now) w v d }
 {
-    (root[w] == root[v]) & (far[w] + d == far[v])
+    root[w] == root[v] && far[w] + d == far[v]
 }
 
 // w becomes the parent of v, below n, over edge k, of length d, where that leads and w is smaller than the parent so far.
+#[tactic(auto, unfolding(crate::specs::Parents::adopt_by))]
 fn adopt_by(
     far: &[u64; POINTS],
     root: &[usize; POINTS],
@@ -163,8 +154,7 @@ fn adopt_by(
     ensures { parents up.new via.new ≡ adopt_by n (labels far.now root.now) v w k d
         (parents up.old via.old) }
 {
-    let is_smaller = w < up[v];
-    if (v < n) & (leads(far, root, w, v, d) & is_smaller) {
+    if v < n && leads(far, root, w, v, d) && w < up[v] {
         up[v] = w;
         via[v] = k;
     }
@@ -187,14 +177,10 @@ fn adopt(
     ensures { parents up.new via.new ≡ parented (graph ea.now eb.now el.now e) n
         (labels far.now root.now) }
 {
-    let mut k = 0;
-    while k < e {
-        let a = ea[k];
-        let b = eb[k];
-        let d = el[k];
-        adopt_by(far, root, n, a, b, k, d, &mut *up, &mut *via);
-        adopt_by(far, root, n, b, a, k, d, &mut *up, &mut *via);
-        k += 1;
+    for k in 0..e {
+        let (a, b, d) = (ea[k], eb[k], el[k]);
+        adopt_by(far, root, n, a, b, k, d, up, via);
+        adopt_by(far, root, n, b, a, k, d, up, via);
     }
 }
 
@@ -212,10 +198,10 @@ pub fn way_length(
 {
     let u = up[v];
     if u < POINTS {
-        let d = el[via[v]];
-        return d + way_length(el, far, up, via, u);
+        el[via[v]] + way_length(el, far, up, via, u)
+    } else {
+        0
     }
-    0
 }
 
 // The labels and the parents of a graph of n vertices with m sources, in tables that are fresh.
@@ -241,7 +227,7 @@ pub fn forest(
         (graph ea.now eb.now el.now e) n
         (labelled (graph ea.now eb.now el.now e) n (entries sources.now 0 m)) }
 {
-    start(sources, m, &mut *far, &mut *root);
-    settle(ea, eb, el, e, n, &mut *far, &mut *root);
-    adopt(ea, eb, el, e, &*far, &*root, n, &mut *up, &mut *via);
+    start(sources, m, far, root);
+    settle(ea, eb, el, e, n, far, root);
+    adopt(ea, eb, el, e, far, root, n, up, via);
 }

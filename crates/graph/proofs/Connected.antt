@@ -20,8 +20,7 @@ use Rattle.net.specs.Net.{Net}
 use Rattle.net.specs.Allowed.{Allowed}
 use Rattle.picks.specs.declared.Quadrant.{Quadrant}
 use Rattle.picks.specs.declared.Quadrant.TheVariants.{First, Fourth}
-use Rattle.picks.specs.declared.Picked.{Picked}
-use Rattle.picks.specs.declared.Picked.TheVariants.{At, Nothing}
+use Rattle.std.specs.Prelude.{Option, Some, None}
 use Rattle.picks.specs.Pick.{within, pick}
 use Rattle.graph.specs.Spanning.{vertices_of, spanning}
 use Rattle.picks.proofs.QuadrantLaws.{Ahead, ahead-along, ahead-never, ahead-total, first-or-fourth-ahead, ahead-first-or-fourth}
@@ -66,9 +65,9 @@ module _ {net : Net} (a : Allowed net) where
         → (v : Place) → v ∈ vs → Fit net.macros q u v → LinkAhead u
     in-quadrant q on v k f = at (pick net.weights net.macros q u vs) refl
       where
-        at : (p : Picked) → pick net.weights net.macros q u vs ≡ p → LinkAhead u
-        at Nothing e = absurd (pick-nothing net.weights net.macros q u vs (vertices-ascending net) e v k f)
-        at (At w) e =
+        at : (p : Option Place) → pick net.weights net.macros q u vs ≡ p → LinkAhead u
+        at None e = absurd (pick-nothing net.weights net.macros q u vs (vertices-ascending net) e v k f)
+        at (Some w) e =
             let r = pick_at net.weights net.macros q u vs (vertices-ascending net) w e in
             record {
               to = w;

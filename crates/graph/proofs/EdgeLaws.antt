@@ -5,7 +5,7 @@ use mathlib.Core.Path.{◌≡◌, refl, ◌∙◌}
 use mathlib.Core.Bool.{true, false}
 use mathlib.Core.Logic.{◌⊎◌, inl, inr}
 use mathlib.Core.List.Memᴰ
-use mathlib.Core.List.{List, [], ◌∷◌, ◌++◌}
+use mathlib.Core.List.{List}
 use Prim.Native.Nat.{◌*◌, ◌≤◌}
 use native.Mathlib.Omega.{arith}
 use lib.ListN.{length}
@@ -29,8 +29,7 @@ use Rattle.plane.proofs.CostLaws.{cost-comm, cost-none}
 use Rattle.plane.proofs.MacroLaws.{clear_comm}
 use Rattle.picks.specs.declared.Quadrant.{Quadrant}
 use Rattle.picks.specs.declared.Quadrant.TheVariants.{First, Second, Third, Fourth}
-use Rattle.picks.specs.declared.Picked.{Picked}
-use Rattle.picks.specs.declared.Picked.TheVariants.{At, Nothing}
+use Rattle.std.specs.Prelude.{Option, Some, None}
 use Rattle.picks.specs.Pick.{pick}
 use Rattle.graph.specs.Edges.{edge_of, before_edge, edge_of_pick, picks_of, all_picks, edges}
 use Rattle.graph.proofs.GraphSteps.{picks-none, picks_more, picks-few}
@@ -57,7 +56,7 @@ module _ (w : Weights) (ms : List Macro) (vs : List Place) where
   pub record PickedBy (u v : Place) : Type 0 where
     pub stands : u ∈ vs
     pub quadrant : Quadrant
-    pub picks : pick w ms quadrant u vs ≡ At v
+    pub picks : pick w ms quadrant u vs ≡ Some v
 
   -- e is the edge of two places, of which the first picks the second
   pub record OfPick (e : Place × Place) : Type 0 where
@@ -70,10 +69,10 @@ module _ (w : Weights) (ms : List Macro) (vs : List Place) where
   unfolding edge_of_pick
   of_one u i q {e} m = at (pick w ms q u vs) refl m
     where
-      at : (p : Picked) → pick w ms q u vs ≡ p → e ∈ edge_of_pick u p → OfPick e
-      at Nothing k m = elim m [ ]
-      at (At v) k (here h) = record { from = u; to = v; picked = record { stands = i; quadrant = q; picks = k }; is = h }
-      at (At v) k (there m) = elim m [ ]
+      at : (p : Option Place) → pick w ms q u vs ≡ p → e ∈ edge_of_pick u p → OfPick e
+      at None k m = elim m [ ]
+      at (Some v) k (here h) = record { from = u; to = v; picked = record { stands = i; quadrant = q; picks = k }; is = h }
+      at (Some v) k (there m) = elim m [ ]
 
   of-picks : (u : Place) → u ∈ vs → {e : Place × Place} → e ∈ picks_of w ms vs u → OfPick e
   unfolding picks_of
@@ -84,11 +83,11 @@ module _ (w : Weights) (ms : List Macro) (vs : List Place) where
       (Memᴰ.append_cases (edge_of_pick u (pick w ms Third u vs)) m)) (Memᴰ.append_cases (edge_of_pick u (pick w ms Second u vs)) m))
       (Memᴰ.append_cases (edge_of_pick u (pick w ms First u vs)) m)
 
-  in_one : (q : Quadrant) (u v : Place) → pick w ms q u vs ≡ At v → edge_of u v ∈ edge_of_pick u (pick w ms q u vs)
+  in_one : (q : Quadrant) (u v : Place) → pick w ms q u vs ≡ Some v → edge_of u v ∈ edge_of_pick u (pick w ms q u vs)
   unfolding edge_of_pick
   in_one q u v e = rw e (here refl)
 
-  in-picks : (q : Quadrant) (u v : Place) → pick w ms q u vs ≡ At v → edge_of u v ∈ picks_of w ms vs u
+  in-picks : (q : Quadrant) (u v : Place) → pick w ms q u vs ≡ Some v → edge_of u v ∈ picks_of w ms vs u
   unfolding picks_of
   in-picks First u v e = Memᴰ.append_left _ (in_one First u v e)
   in-picks Second u v e = Memᴰ.append_right (edge_of_pick u (pick w ms First u vs)) (Memᴰ.append_left _ (in_one Second u v e))

@@ -6,8 +6,7 @@ use Rattle.plane.specs.declared.Macro.{Macro}
 use Rattle.plane.specs.declared.Weights.{Weights}
 use Rattle.plane.specs.Place.{before}
 use Rattle.picks.specs.declared.Quadrant.TheVariants.{First, Second, Third, Fourth}
-use Rattle.picks.specs.declared.Picked.{Picked}
-use Rattle.picks.specs.declared.Picked.TheVariants.{At, Nothing}
+use Rattle.std.specs.Prelude.{Option, Some, None}
 use Rattle.picks.specs.Pick.{pick}
 
 -- N16: an edge has its smaller place first
@@ -19,9 +18,9 @@ unfoldable pub before_edge : Place × Place → Place × Place → Bool
 before_edge = first_then before before
 
 -- the edge of a pick, or none
-unfoldable pub edge_of_pick : Place → Picked → List (Place × Place)
-edge_of_pick u Nothing = []
-edge_of_pick u (At v) = edge_of u v ∷ []
+unfoldable pub edge_of_pick : Place → Option Place → List (Place × Place)
+edge_of_pick u None = []
+edge_of_pick u (Some v) = edge_of u v ∷ []
 
 -- the edges that u picks
 unfoldable pub picks_of : Weights → List Macro → List Place → Place → List (Place × Place)

@@ -6,7 +6,7 @@ use mathlib.Core.Path.{◌≡◌, refl, sym, ap, ◌∙◌}
 use mathlib.Core.Bool.{Bool, true, false, ◌||◌}
 use mathlib.Core.Logic.{◌⊎◌, inl, inr}
 use mathlib.Core.List.{List}
-use Prim.Native.Nat.{ℕ, suc, ◌+◌, ◌*◌, ◌/◌, ◌≤◌, ◌<◌}
+use Prim.Native.Nat.{ℕ, ◌+◌, ◌*◌, ◌/◌, ◌≤◌, ◌<◌}
 use native.Mathlib.Decide.{ℕ_discrete}
 use native.Mathlib.Omega.{arith}
 use lib.ListN.{length, get_or}
@@ -217,28 +217,3 @@ module _ (costs : List ℕ) (e : ℕ) where
     onward = q.quiet;
     quiet = λ h. both-quiet u q.quiet (λ v w c i. rw (q.same h) (p.quiet v w c i));
   }
-
-  pub record Settling (s t : List ℕ) (more : Bool) : Type 0 where
-    pub held : Held (Near costs e) s t
-    pub onward : Quiet (Onward costs e e) t
-    pub quiet : more ≡ false → Quiet (Near costs e) t
-
-  unfoldable pub measure : List ℕ → Bool → ℕ
-  measure t true = suc (total t)
-  measure t false = 0
-
-  pub settle-none : (s : List ℕ) → Quiet (Onward costs e e) s → Settling s s true
-  settle-none s on = record { held = held_start (Near costs e) s; onward = on; quiet = λ h. differ refl h }
-
-  pub settle-more : (s t u : List ℕ) (more m : Bool) → Settling s t more → PassedBoth costs e m t u → Settling s u m
-  settle-more s t u more m h p = record {
-    held = held_then (Near costs e) s t u h.held p.held;
-    onward = p.onward;
-    quiet = p.quiet;
-  }
-
-  pub settle-less : (t u : List ℕ) (more m : Bool) → more ≡ true → PassedBoth costs e m t u → measure u m < measure t more
-  unfolding measure
-  settle-less t u false m h p = differ h refl
-  settle-less t u true true h p = omega (arith, p.less refl)
-  settle-less t u true false h p = omega arith

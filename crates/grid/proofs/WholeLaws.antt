@@ -1,6 +1,6 @@
 -- The tables as the program has made them, for an allowed net of flat lists: what each call is handed, and what the last one gives.
 -- Assumes nothing.
-use mathlib.Core.Path.{◌≡◌, sym, ap, ap₂, subst, ◌∙◌}
+use mathlib.Core.Path.{◌≡◌, refl, sym, ap, ap₂, subst, ◌∙◌}
 use mathlib.Core.List.{List, map}
 use Prim.Native.Nat.{ℕ, ◌*◌, ◌≤◌}
 use native.Mathlib.Omega.{arith}
@@ -43,6 +43,11 @@ pub record Lined (axis : Axis) (pins macros : List ℤ) (n : ℕ) (table : List 
   pub fresh : lent ≡ replicate line_bound (pos 0)
   pub count : n ≡ length (lines_of axis (pin_places pins) (macros_of macros))
   pub list : table ≡ over (lines_of axis (pin_places pins) (macros_of macros)) lent
+
+pub lined : {axis : Axis} {pins macros : List ℤ} {n : ℕ} {table : List ℤ} →
+    n ≡ length (lines_of axis (pin_places pins) (macros_of macros)) →
+    table ≡ over (lines_of axis (pin_places pins) (macros_of macros)) (replicate line_bound (pos 0)) → Lined axis pins macros n table
+lined e f = record { lent = replicate line_bound (pos 0); fresh = refl; count = e; list = f }
 
 module _ {w : Weights} {pins macros : List ℤ} (s : Small w pins macros) where
   abbrev net : Net

@@ -12,6 +12,7 @@
 --   Rows       lowered, Held, Quiet                      one number lowered; what became of a row; nothing is left to lower
 --   Nearest    Nearest G d cap p t                       a settled table of distances to p
 --   Tables     target, is_segment, edge_cost, CostsTo      segments by number, and what they cost: 0 where there is no edge
+--              crossing_by                                 the place of a crossing, for any number of lines
 --              Row, Starts, Fits, Near                   what the program asks of its tables
 --              Lowered, Onward, Backward, Passed          one edge asked; the edges of a pass on or back, and what it comes to
 --              Settled, RowPut, RowsOver                 a number of a settled row; rows in a lent list

@@ -17,7 +17,10 @@ use Rattle.grid.specs.Rows.{at, lowered, Held, Quiet}
 
 -- Segments
 
--- the place of a crossing, by the tables of lines
+-- the place of a crossing, by tables of n lines, and by the tables of lines
+abbrev pub crossing_by : ℕ → List ℤ → List ℤ → ℕ → Place
+crossing_by n xs ys v = place (get_or xs (v / n) (pos 0)) (get_or ys (v % n) (pos 0))
+
 abbrev pub crossing_at : List ℤ → List ℤ → ℕ → Place
 crossing_at xs ys v = place (get_or xs (v / line_bound) (pos 0)) (get_or ys (v % line_bound) (pos 0))
 

@@ -1,11 +1,12 @@
 -- The code's small steps are those of the definitions.
 -- Assumes nothing.
-use mathlib.Core.Path.{◌≡◌, refl, sym, ◌∙◌}
+use mathlib.Core.Path.{◌≡◌, refl}
 use mathlib.Core.Bool.{Bool, true, false}
 use Prim.Native.Nat.{ℕ, ◌+◌, ◌≤◌, min}
 use native.Mathlib.Omega.{arith}
 use borrow.Author.Tests.{eq-eqb, ne_eqb}
 use lib.Dec.{eqb}
+use mir.Val.{bool_byte}
 use Rattle.lists.proofs.TestLaws.{by}
 use Rattle.turned.specs.declared.Seen.{Seen}
 use Rattle.hanging.specs.declared.Hang.{Hang}
@@ -23,16 +24,20 @@ shorter-next d h e = rw (shorter, ne_eqb h.ahead 0 e) refl
 abbrev hang_of : ℕ → ℕ → ℕ → Hang
 hang_of a b d = record { ahead = a; behind = b; shortest = d }
 
-pub hung-ahead : (e : Seen) (h : Hang) (b n m : ℕ) (t u : Bool) → t ≡ ahead_of e → t ≡ true → u ≡ behind_of e → b ≡ counted u h.behind
-    → n ≡ long_of e → m ≡ shorter true n h → hang_of (h.ahead + 1) b m ≡ hung e h
-unfolding hung counted
-hung-ahead e h b n m t u p q r s v w =
-    rw (hung, sym p ∙ q, s, r, w, v) refl
+counted-byte : (t : Bool) (n b : ℕ) → b ≡ bool_byte t → n + b ≡ counted t n
+unfolding counted
+counted-byte true n b e = omega (arith, e)
+counted-byte false n b e = omega (arith, e)
 
-pub hung-not : (e : Seen) (h : Hang) (b : ℕ) (t u : Bool) → t ≡ ahead_of e → t ≡ false → u ≡ behind_of e → b ≡ counted u h.behind
-    → hang_of h.ahead b h.shortest ≡ hung e h
-unfolding hung counted shorter
-hung-not e h b t u p q r s = rw (hung, sym p ∙ q, s, r) refl
+module _ (e : Seen) (h : Hang) (a b : ℕ) (t u : Bool) (p : t ≡ ahead_of e) (r : u ≡ behind_of e) (f : a ≡ bool_byte t) (g : b ≡ bool_byte u)
+  where
+    pub hung-ahead : t ≡ true → (n m : ℕ) → n ≡ long_of e → m ≡ shorter true n h → hang_of (h.ahead + a) (h.behind + b) m ≡ hung e h
+    unfolding hung
+    hung-ahead q n m v w = rw (hung, counted-byte t h.ahead a f, counted-byte u h.behind b g, ← p, ← r, q, w, v) refl
+
+    pub hung-not : t ≡ false → hang_of (h.ahead + a) (h.behind + b) h.shortest ≡ hung e h
+    unfolding hung shorter
+    hung-not q = rw (hung, counted-byte t h.ahead a f, counted-byte u h.behind b g, ← p, ← r, q) refl
 
 count_small : (t : Bool) (m k : ℕ) → m ≤ k → counted t m ≤ k + 1
 unfolding counted

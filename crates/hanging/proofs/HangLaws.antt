@@ -12,7 +12,7 @@ use Rattle.lists.specs.Those.{those}
 use Rattle.lists.proofs.TestLaws.{by}
 use Rattle.plane.specs.declared.Place.{Place}
 use Rattle.slide.specs.Bend.{Edge}
-use Rattle.slide.specs.Bar.{ahead, behind, long, least, shortest}
+use Rattle.slide.specs.Bar.{ahead, behind, long, least}
 use Rattle.straight.specs.Table.{run, edge_at, edges_in}
 use Rattle.turned.specs.declared.Seen.{Seen}
 use Rattle.hanging.specs.declared.Hang.{Hang}

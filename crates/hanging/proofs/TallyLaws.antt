@@ -1,9 +1,9 @@
 -- What hangs, one number a bar: the number read back, an edge hung on the bars of its ends, and the table of all bars.
 -- Assumes nothing.
 use mathlib.Core.Path.{◌≡◌, refl, sym, ap, ap₂, ◌∙◌}
-use mathlib.Core.Bool.{Bool, true, false}
+use mathlib.Core.Bool.{false}
 use mathlib.Core.List.{List}
-use Prim.Native.Nat.{ℕ, zero, suc, ◌+◌, ◌*◌, ◌/◌, ◌%◌, ◌^◌, ◌≤◌, ◌<◌}
+use Prim.Native.Nat.{ℕ, ◌+◌, ◌*◌, ◌/◌, ◌%◌, ◌^◌, ◌≤◌, ◌<◌}
 use native.Mathlib.Omega.{arith}
 use native.Mathlib.Numerals.{add-one}
 use borrow.Author.Tests.{ne_eqb, eqb-true, eqb-false}
@@ -18,7 +18,7 @@ use Rattle.turned.specs.declared.Seen.{Seen}
 use Rattle.hanging.specs.declared.Hang.{Hang}
 use Rattle.turned.specs.Steps.{up_to}
 use Rattle.turned.specs.Turned.{View, view, on_it, seen_edge, ahead_of, behind_of}
-use Rattle.hanging.specs.Hanging.{counted, shorter, hung, none_hung, hang, count_limit, code, uncode, Coded, Added, Tallied}
+use Rattle.hanging.specs.Hanging.{counted, shorter, hung, hang, count_limit, code, uncode, Coded, Added, Tallied}
 use Rattle.hanging.proofs.CodeLaws.{hung-small}
 
 -- The number read back

@@ -26,45 +26,31 @@ const LENGTHS: u64 = 8589934592;
 // Counts are below this: more than the edges of a straight tree, whatever the bounds of pins and macros. With 128 of each a power of two.
 const COUNTS: u64 = (Net::PINS + Net::MACROS) as u64 * 8;
 
-fn counted(t: bool, n: usize) -> usize
-    requires { n < 2 ^ 32 }
-    ensures { result ≡ counted t n }
-{
-    if t {
-        return n + 1;
-    }
-    n
-}
-
 // The shortest with one that is ahead: the first is the shortest so far.
 fn shortest(h: Hang, d: u64) -> u64
     ensures { result ≡ shorter true d h }
 {
-    if h.ahead == 0 {
-        return d;
-    }
-    turned::smaller(h.shortest, d)
+    if h.ahead == 0 { d } else { h.shortest.min(d) }
 }
 
 fn hung(e: Seen, h: Hang) -> Hang
     requires { (h.ahead < 2 ^ 32) × (h.behind < 2 ^ 32) }
     ensures { result ≡ hung e h }
 {
-    if turned::is_ahead(e) {
-        return Hang {
-            ahead: h.ahead + 1,
-            behind: counted(turned::is_behind(e), h.behind),
-            shortest: shortest(h, turned::long(e)),
-        };
-    }
+    let is_ahead = turned::is_ahead(e);
     Hang {
-        ahead: h.ahead,
-        behind: counted(turned::is_behind(e), h.behind),
-        shortest: h.shortest,
+        ahead: h.ahead + usize::from(is_ahead),
+        behind: h.behind + usize::from(turned::is_behind(e)),
+        shortest: if is_ahead {
+            shortest(h, turned::long(e))
+        } else {
+            h.shortest
+        },
     }
 }
 
 // What hangs as one number: the counts above the length.
+// Kept: one number, since `code` is a word of `Coded` and `Tallied`, by which the contracts here say what hangs from a bar.
 fn code(h: Hang) -> u64
     requires { ((h.ahead ≤ straight_bound) × (h.behind ≤ straight_bound)) × (h.shortest ≤ 2 ^ 32) }
     ensures { result ≡ code h }
@@ -101,7 +87,7 @@ fn add(
     ensures { Added (view pts.now keys.now lab.now s l) k hangs.old
         hangs.new }
 {
-    let h = hang_at(&*hangs, l);
+    let h = hang_at(hangs, l);
     let t = turned::seen_edge(pts, keys, lab, s, l, k);
     hangs[l] = code(hung(t, h));
 }
@@ -121,9 +107,9 @@ fn add_edge(
 {
     let p = lab[straight::first_end(keys, k)];
     let q = lab[straight::second_end(keys, k)];
-    add(pts, keys, lab, s, k, p, &mut *hangs);
+    add(pts, keys, lab, s, k, p, hangs);
     if p != q {
-        add(pts, keys, lab, s, k, q, &mut *hangs);
+        add(pts, keys, lab, s, k, q, hangs);
     }
 }
 
@@ -140,9 +126,7 @@ pub fn tally(
     requires hangs_value { hangs.old ≡ replicate straight_bound 0 }
     ensures { Tallied pts.now keys.now lab.now s e hangs.new }
 {
-    let mut k = 0;
-    while k < e {
-        add_edge(pts, keys, lab, s, k, &mut *hangs);
-        k += 1;
+    for k in 0..e {
+        add_edge(pts, keys, lab, s, k, hangs);
     }
 }

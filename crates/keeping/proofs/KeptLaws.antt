@@ -3,14 +3,14 @@
 use mathlib.Core.Path.{◌≡◌, refl, sym, ap, ap₂, ◌∙◌}
 use mathlib.Core.Bool.{true, false}
 use mathlib.Core.List.{List, [], ◌∷◌, ◌++◌, map, append-nil}
-use Prim.Native.Nat.{ℕ, zero, suc, ◌+◌, ◌-◌, ◌*◌, ◌≤◌, ◌<◌}
+use Prim.Native.Nat.{ℕ, zero, suc, ◌+◌, ◌*◌, ◌≤◌, ◌<◌}
 use native.Mathlib.Nat.{suc-mul}
 use native.Mathlib.Numerals.{add-one}
 use native.Mathlib.Omega.{arith}
 use borrow.Author.Tests.{eq-eqb, ne_eqb}
 use lib.Dec.{eqb}
 use lib.ListN.{length, get_or, set, drop, length-append, length-map}
-use lib.Seq.{set_at, get_or_at, append_snoc}
+use lib.Seq.{get_or_at, append_snoc}
 use Rattle.lists.specs.Member.{◌∈◌}
 use Rattle.lists.specs.Total.{total}
 use Rattle.lists.proofs.MemberLaws.{get_d-in}
@@ -18,7 +18,6 @@ use Rattle.lent.specs.Over.{over}
 use Rattle.lent.proofs.OverLaws.{over_none, over-more}
 use Rattle.joined.specs.Table.{changed, kept_by}
 use Rattle.forest.specs.Edges.{entries, Listed}
-use Rattle.forest.proofs.EdgeLaws.{one_less, none_left}
 
 -- A table changed in place
 
@@ -29,34 +28,6 @@ changed-yes a b x e = rw (changed, eq-eqb x b e) refl
 pub changed-no : (a b x : ℕ) → (x ≡ b → ⊥) → x ≡ changed a b x
 unfolding changed
 changed-no a b x e = rw (changed, ne_eqb x b e) refl
-
--- the table xs with f applied at each number from i on, n of them
-unfoldable pub mapped : (ℕ → ℕ) → ℕ → ℕ → List ℕ → List ℕ
-mapped f i zero xs = xs
-mapped f i (suc n) xs = mapped f (suc i) n (set xs i (f (get_or xs i 0)))
-
-module _ (f : ℕ → ℕ) (i n : ℕ) (xs all : List ℕ) (p : mapped f i (n - i) xs ≡ all) where
-  pub mapped-more : (x : ℕ) → i < n → x ≡ f (get_or xs i 0) → mapped f (i + 1) (n - (i + 1)) (set xs i x) ≡ all
-  unfolding mapped
-  mapped-more x h e = rw (e, add-one i) (sym (rw (one_less i n h, add-one i) refl) ∙ p)
-
-  pub mapped_end : n ≤ i → xs ≡ all
-  unfolding mapped
-  mapped_end h = sym (rw (none_left i n h) refl) ∙ p
-
-module _ (f : ℕ → ℕ) where
-  mapped-past : (ps xs : List ℕ) (i : ℕ) → length ps ≡ i → mapped f i (length xs) (ps ++ xs) ≡ ps ++ map f xs
-  unfolding mapped
-  mapped-past ps [] i e = refl
-  mapped-past ps (x ∷ xs) i e =
-      let n : length (ps ++ (f x ∷ [])) ≡ suc i = length-append ps (f x ∷ []) ∙ omega arith in
-      ap (λ (z : ℕ). mapped f (suc i) (length xs) (set (ps ++ (x ∷ xs)) i (f z))) (get_or_at ps x xs 0 i e)
-      ∙ ap (mapped f (suc i) (length xs)) (set_at ps x xs (f x) i e ∙ sym (append_snoc ps (f x) xs))
-      ∙ mapped-past (ps ++ (f x ∷ [])) xs (suc i) n
-      ∙ append_snoc ps (f x) (map f xs)
-
-  pub mapped-all : (n : ℕ) (xs : List ℕ) → length xs ≡ n → mapped f 0 n xs ≡ map f xs
-  mapped-all n xs e = rw (← e) (mapped-past [] xs 0 refl)
 
 pub merged-length : (a b n : ℕ) (g g' : List ℕ) → g' ≡ map (changed a b) g → length g ≡ n → length g' ≡ n
 merged-length a b n g g' e h = ap length e ∙ length-map g (changed a b) ∙ h

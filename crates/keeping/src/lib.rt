@@ -22,23 +22,15 @@ pub struct Kept {
 
 // Groups of numbered points
 
-fn changed(a: u16, b: u16, x: u16) -> u16
-    ensures { result ≡ changed a b x }
-{
-    if x == b {
-        return a;
-    }
-    x
-}
-
 // The group b becomes the group a.
+// Kept: for u16, beside `labels` for usize: `changed`, which theorems name, is a function of numbers and not of any T.
 pub fn merge(group: &mut [u16], a: u16, b: u16)
     ensures { group.new ≡ map (changed a b) group.old }
 {
-    let mut i = 0;
-    while i < group.len() {
-        group[i] = changed(a, b, group[i]);
-        i += 1;
+    for x in group.iter_mut() {
+        if *x == b {
+            *x = a;
+        }
     }
 }
 
@@ -47,10 +39,8 @@ pub fn number(group: &mut [u16], n: usize)
     requires { (n ≤ length group.old) × (n ≤ 2 ^ 16) }
     ensures { group.new ≡ filled (λ k. k) 0 n group.old }
 {
-    let mut k = 0;
-    while k < n {
+    for k in 0..n {
         group[k] = k as u16;
-        k += 1;
     }
 }
 
@@ -81,14 +71,12 @@ fn keep(
     ensures upper_bound { result ≤ n }
 {
     let mut count = 0;
-    let mut i = 0;
-    while i < n {
-        let k = order[i] as usize;
-        i += 1;
-        let a = group_at(ea, root, &*group, k);
-        let b = group_at(eb, root, &*group, k);
+    for &j in &order[..n] {
+        let k = usize::from(j);
+        let a = group_at(ea, root, group, k);
+        let b = group_at(eb, root, group, k);
         if a != b {
-            merge(&mut *group, a, b);
+            merge(group, a, b);
             kept[count] = k;
             count += 1;
         }
@@ -105,12 +93,10 @@ fn measure(w: &[u64; EDGES], kept: &[usize; EDGES], n: usize, long: &mut [u64; E
     ensures value { result ≡ total (map (λ k. get_or w.now k 0) (entries kept.now 0 n)) }
 {
     let mut sum = 0;
-    let mut i = 0;
-    while i < n {
+    for i in 0..n {
         let d = w[kept[i]];
         long[i] = d;
         sum += d;
-        i += 1;
     }
     sum
 }
@@ -146,12 +132,9 @@ fn kept_paths(
     let n = bridges::sort_bridges(ea, eb, e, root, &w, &mut order);
     let mut group = [0u16; POINTS];
     number(&mut group, POINTS);
-    let count = keep(ea, eb, root, &order, n, &mut group, &mut *kept);
-    let total = measure(&w, &*kept, count, &mut *long);
-    Kept {
-        count: count,
-        total: total,
-    }
+    let count = keep(ea, eb, root, &order, n, &mut group, kept);
+    let total = measure(&w, kept, count, long);
+    Kept { count, total }
 }
 
 // The terminal tree of a graph of n vertices with m pins: the labels and the parents in tables that are fresh, the kept bridges in the
@@ -186,10 +169,6 @@ pub fn kept_tree(
     ensures total_value { result.total ≡ (terminal (graph ea.now eb.now el.now e) n
         (entries pin.now 0 m)).total }
 {
-    forest::forest(
-        ea, eb, el, e, n, pin, m, &mut *far, &mut *root, &mut *up, &mut *via,
-    );
-    kept_paths(
-        ea, eb, el, e, &*far, &*root, &*up, &*via, &mut *kept, &mut *long,
-    )
+    forest::forest(ea, eb, el, e, n, pin, m, far, root, up, via);
+    kept_paths(ea, eb, el, e, far, root, up, via, kept, long)
 }

@@ -2,29 +2,29 @@
 -- point.
 -- Assumes nothing.
 use mathlib.Core.Path.{◌≡◌, refl, sym, ap, ap₂, ◌∙◌, subst}
-use mathlib.Core.Bool.{Bool, true, false}
+use mathlib.Core.Bool.{true, false}
 use mathlib.Core.Logic.{inl, inr}
 use mathlib.Core.List.Memᴰ
 use mathlib.Core.List.{List, [], ◌∷◌}
-use Prim.Native.Nat.{ℕ, zero, suc, ◌+◌, ◌≤◌, ◌<◌, min, max}
+use Prim.Native.Nat.{ℕ, zero, suc, ◌≤◌, ◌<◌, min, max}
 use native.Mathlib.Decide.{ℕ_discrete}
 use native.Mathlib.Omega.{arith}
 use borrow.Author.Tests.{eqb-true, ltb-true, ltb-false}
 use lib.Dec.{eqb, ltb}
 use lib.IntN.{ℤ}
-use lib.ListN.{length, get_or, set, length-set}
+use lib.ListN.{length, get_or, length-set}
 use lib.Seq.{get_or-set_same, get_or-set_other}
 use Rattle.lists.specs.Member.{◌∈◌, here, there}
 use Rattle.lists.proofs.TestLaws.{by, either}
 use Rattle.joined.specs.Joined.{Joined, stay}
-use Rattle.joined.specs.Labels.{merge, renamed, Labels}
+use Rattle.joined.specs.Labels.{merge, Labels}
 use Rattle.joined.specs.Table.{changed}
 use Rattle.joined.proofs.JoinedLaws.{one, carried, firsts, seconds, between}
 use Rattle.joined.proofs.LabelLaws.{merged}
 use Rattle.joined.proofs.TableLaws.{changed-renamed}
 use Rattle.slide.specs.declared.Side.{Side}
-use Rattle.straight.specs.Table.{straight_bound, first_end, second_end}
-use Rattle.turned.specs.Steps.{up_to, set_by, set_up_to}
+use Rattle.straight.specs.Table.{first_end, second_end}
+use Rattle.turned.specs.Steps.{up_to, set_up_to}
 use Rattle.turned.specs.Turned.{level_at}
 use Rattle.labels.specs.Labelling.{united, joined_by, labelled}
 

@@ -14,20 +14,15 @@ fn number(lab: &mut [usize; POINTS], n: usize)
     requires { n ≤ straight_bound }
     ensures { lab.new ≡ set_up_to (λ i x. i) n lab.old }
 {
-    let mut i = 0;
-    while i < n {
+    for i in 0..n {
         lab[i] = i;
-        i += 1;
     }
 }
 
 fn changed(a: usize, b: usize, x: usize) -> usize
     ensures { result ≡ changed a b x }
 {
-    if x == b {
-        return a;
-    }
-    x
+    if x == b { a } else { x }
 }
 
 // The label b becomes a.
@@ -35,27 +30,16 @@ fn merge(lab: &mut [usize; POINTS], n: usize, a: usize, b: usize)
     requires { n ≤ straight_bound }
     ensures { lab.new ≡ set_up_to (λ i x. changed a b x) n lab.old }
 {
-    let mut i = 0;
-    while i < n {
+    for i in 0..n {
         lab[i] = changed(a, b, lab[i]);
-        i += 1;
     }
-}
-
-fn higher(a: usize, b: usize) -> usize
-    ensures { result ≡ max a b }
-{
-    if a < b {
-        return b;
-    }
-    a
 }
 
 // Point b has its own label q, above p and above `top`: no other point has it.
 fn is_lone(n: usize, p: usize, b: usize, q: usize, top: usize) -> bool
     ensures { result ≡ (eqb q b && (ltb b n && (ltb p b && ltb top b))) }
 {
-    (q == b) & ((b < n) & ((p < b) & (top < b)))
+    q == b && b < n && p < b && top < b
 }
 
 // Of the label p and that of point b the greater becomes the smaller. Where no other point has b's label, b takes p.
@@ -66,13 +50,11 @@ fn unite(lab: &mut [usize; POINTS], n: usize, p: usize, b: usize, top: usize)
     let q = lab[b];
     if is_lone(n, p, b, q, top) {
         lab[b] = p;
-        return;
-    }
-    if p < q {
+    } else if p < q {
         merge(lab, n, p, q);
-        return;
+    } else {
+        merge(lab, n, q, p);
     }
-    merge(lab, n, q, p);
 }
 
 // Edge k is a first one of its bar: along it, from the bar's first point.
@@ -107,10 +89,11 @@ fn join(
 {
     if turned::is_level(pts, keys, s, k) {
         let p = lab[straight::first_end(keys, k)];
-        unite(&mut *lab, n, p, straight::second_end(keys, k), top);
-        return higher(top, p);
+        unite(lab, n, p, straight::second_end(keys, k), top);
+        top.max(p)
+    } else {
+        top
     }
-    top
 }
 
 pub fn label(
@@ -124,11 +107,9 @@ pub fn label(
     requires { (n ≤ straight_bound) × ((e ≤ straight_bound) × (Small keys.now)) }
     ensures { lab.new ≡ labelled s pts.now keys.now n e lab.old }
 {
-    number(&mut *lab, n);
+    number(lab, n);
     let mut top = 0;
-    let mut k = 0;
-    while k < e {
-        top = join(pts, keys, n, s, k, &mut *lab, top);
-        k += 1;
+    for k in 0..e {
+        top = join(pts, keys, n, s, k, lab, top);
     }
 }

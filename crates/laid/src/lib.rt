@@ -18,12 +18,10 @@ pub fn total(w: Weights, edges: &[i32], e: usize) -> u64
     ensures { (result ≡ lengths (cost w) (edges_of edges.now e)) × (result ≤ e * cost_limit) }
 {
     let mut sum = 0;
-    let mut i = 0;
-    while i < e {
+    for i in 0..e {
         let a = plane::place_at(edges, i * 2);
         let b = plane::place_at(edges, i * 2 + 1);
         sum += plane::cost(w, a, b);
-        i += 1;
     }
     sum
 }
@@ -33,11 +31,7 @@ pub fn metal(edges: &[i32], e: usize) -> u64
     requires { (e * 4 ≤ length edges.now) × (e ≤ laid_bound) }
     ensures { (result ≡ lengths distance (edges_of edges.now e)) × (result ≤ e * cost_limit) }
 {
-    let plain = Weights {
-        across: 1,
-        along: 1,
-    };
-    total(plain, edges, e)
+    total(Weights::PLAIN, edges, e)
 }
 
 // The first e edges, in order.
@@ -45,11 +39,9 @@ pub fn give(edges: &[i32], e: usize, lent: &mut [i32])
     requires { (e * 4 ≤ length edges.now) × (e * 4 ≤ length lent.old) }
     ensures { lent.new ≡ over (flat edge_numbers (edges_of edges.now e)) lent.old }
 {
-    let mut i = 0;
-    while i < e {
+    for i in 0..e {
         let a = plane::place_at(edges, i * 2);
         let b = plane::place_at(edges, i * 2 + 1);
-        graph::put_edge(&mut *lent, i, a, b);
-        i += 1;
+        graph::put_edge(lent, i, a, b);
     }
 }

@@ -4,16 +4,15 @@
 ghost use Rattle.std.specs.Prelude.{◌≡◌, ◌+◌, ◌*◌, ◌≤◌, length};
 ghost use Rattle.net.specs.Bounds.{macro_bound, macro_width};
 
-use checks::Checked;
-use net::{Net, Weighing};
+use net::{Net, Refusal, Weighing};
 use std::io;
 use std::io::Print;
 
 // The answer on a line: `allowed`, or `refused` and the number.
-fn say<P: Print>(rt: &P, what: &str, answer: Checked) -> io::Result<()> {
+fn say<P: Print>(rt: &P, what: &str, answer: Result<Net, Refusal>) -> io::Result<()> {
     match answer {
-        Checked::Allowed(_) => println!(rt; "{what}: allowed"),
-        Checked::Refused(refusal) => println!(rt; "{what}: refused {}", refusal.number()),
+        Ok(_) => println!(rt; "{what}: allowed"),
+        Err(refusal) => println!(rt; "{what}: refused {}", refusal.number()),
     }
 }
 
@@ -33,10 +32,8 @@ fn counted_up() -> [i32; NUMBERS]
     ensures { (macro_bound + 1) * macro_width ≡ length result }
 {
     let mut numbers = [0i32; NUMBERS];
-    let mut i: usize = 0;
-    while i < NUMBERS {
-        numbers[i] = i as i32;
-        i += 1;
+    for (i, number) in numbers.iter_mut().enumerate() {
+        *number = i as i32;
     }
     numbers
 }
@@ -62,26 +59,26 @@ fn coordinates<P: Print>(rt: &P) -> io::Result<()> {
 }
 
 // One pin with this load.
-fn load(z: i32) -> Checked {
+fn load(z: i32) -> Result<Net, Refusal> {
     router::check(plain(), &[0, 0, z], &[0i32; 0])
 }
 
 // The first n numbers as pins.
-fn pins(numbers: &[i32], n: usize) -> Checked
+fn pins(numbers: &[i32], n: usize) -> Result<Net, Refusal>
     requires { n ≤ length numbers.now }
 {
     router::check(plain(), &numbers[..n], &[0i32; 0])
 }
 
 // The first n numbers as macros.
-fn macros(numbers: &[i32], n: usize) -> Checked
+fn macros(numbers: &[i32], n: usize) -> Result<Net, Refusal>
     requires { n ≤ length numbers.now }
 {
     router::check(plain(), &[0, 0, 0], &numbers[..n])
 }
 
 // One pin with these weights.
-fn weights(first: i32, second: i32) -> Checked {
+fn weights(first: i32, second: i32) -> Result<Net, Refusal> {
     router::check(Weighing { first, second }, &[0, 0, 0], &[0i32; 0])
 }
 

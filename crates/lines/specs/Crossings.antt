@@ -11,6 +11,9 @@ use Rattle.lines.specs.Bounds.{line_bound}
 unfoldable pub is_crossing : List ℤ → List ℤ → Place → Bool
 is_crossing xs ys v = any (z_eq v.x) xs && any (z_eq v.y) ys
 
--- the number of a crossing; numbers go as places do
+-- the number of a crossing, with n numbers for each line across; numbers go as places do
+abbrev pub number_by : ℕ → List ℤ → List ℤ → Place → ℕ
+number_by n xs ys v = position lt_z xs v.x * n + position lt_z ys v.y
+
 unfoldable pub crossing_number : List ℤ → List ℤ → Place → ℕ
 crossing_number xs ys v = position lt_z xs v.x * line_bound + position lt_z ys v.y

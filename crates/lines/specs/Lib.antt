@@ -12,7 +12,7 @@
 --              Crossing, Neighbours, Beside              a place on two lines; two lines with none between
 --              GridStep, UnitStep, ClearStep             neighbouring crossings that are clear; one clear unit; two clear places
 --   Edges      grid_edges net                             the grid's edges as a list that computes
---   Crossings  is_crossing, crossing_number                the test, and the number of a crossing: numbers go as places do
+--   Crossings  is_crossing, crossing_number, number_by     the test, and the number of a crossing: numbers go as places do
 --   Tables     line_from, InsertedLines, FewLines         lines in tables, put in; no more than there is room for
 pub mod Bounds
 pub mod Lines

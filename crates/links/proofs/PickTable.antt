@@ -8,8 +8,11 @@ use native.Mathlib.Omega.{arith}
 use borrow.Author.Tests.{ltb-true, ltb-false}
 use lib.Dec.{ltb}
 use lib.IntN.{ℤ}
-use lib.ListN.{length, get_or, set, length-set}
-use lib.Seq.{sets, get_or-set_same, get_or-set_other}
+use borrow.Rule.Slice.PartMut.{put_mid}
+use lib.ListN.{length, get_or, set, length-set, take, drop}
+use lib.Seq.{drop-drop, sets, get_or-set_same, get_or-set_other}
+use Rattle.std.proofs.Common.{append_assoc}
+use Rattle.std.proofs.lemmas.List.Edits.{sets-eq}
 use Rattle.lists.proofs.TestLaws.{by}
 use Rattle.plane.specs.declared.Macro.{Macro}
 use Rattle.plane.specs.declared.Weights.{Weights}
@@ -46,9 +49,14 @@ module _ {X : Type 0} where
       ap (λ (k : ℕ). get_or (sets (set l i x) (suc i) xs) k d) n
       ∙ sets-at (set l i x) (suc i) xs c d (omega arith) (omega (arith, length-set l i x))
 
+-- copied into a part, they are stored there
+pub put_mid-sets : (l vs : List ℕ) (i k : ℕ) → k ≡ length vs → i + length vs ≤ length l → put_mid i k l vs ≡ sets l i vs
+put_mid-sets l vs i k e h =
+    cc (sets-eq vs l i h, append_assoc (take i l) vs (drop k (drop i l)), drop-drop k i l, e)
+
 -- The table of picks
 
-column-small : (q : Quadrant) → column q < 4
+pub column-small : (q : Quadrant) → column q < 4
 unfolding column
 column-small First = omega arith
 column-small Second = omega arith

@@ -23,11 +23,7 @@ fn put_four(picked: &mut [u16; PICKS], k: usize, above: TwoPicks, below: TwoPick
     requires { k < point_bound }
     ensures { picked.new ≡ sets picked.old (k * 4) (four_picks above below) }
 {
-    let i = k * 4;
-    picked[i] = above.right;
-    picked[i + 1] = above.left;
-    picked[i + 2] = below.left;
-    picked[i + 3] = below.right;
+    picked[k * 4..k * 4 + 4].copy_from_slice(&[above.right, above.left, below.left, below.right]);
 }
 
 // The numbers that each of n vertices picks, four a vertex.
@@ -36,12 +32,10 @@ pub fn put_picks(w: Weights, macros: &[i32], vertices: &[i32], n: usize, picked:
     requires picked_len { length picked.old ≡ edge_bound }
     ensures { PicksHeld w (macros_of macros.now) vertices.now picked.new n }
 {
-    let mut k = 0;
-    while k < n {
+    for k in 0..n {
         let above = picks::picks(w, macros, vertices, k, Quadrant::Second, Quadrant::First);
         let below = picks::picks(w, macros, vertices, k, Quadrant::Third, Quadrant::Fourth);
-        put_four(&mut *picked, k, above, below);
-        k += 1;
+        put_four(picked, k, above, below);
     }
 }
 
@@ -50,11 +44,11 @@ fn has_picked(picked: &[u16; PICKS], a: usize, b: u16) -> bool
     requires { a < point_bound }
     ensures { result ≡ has_picked picked.now a b }
 {
-    let k = a * 4;
-    (picked[k] == b) | (picked[k + 1] == b) | (picked[k + 2] == b) | (picked[k + 3] == b)
+    picked[a * 4..a * 4 + 4].contains(&b)
 }
 
 // One of two vertices picks the other.
+#[tactic(auto, unfolding(crate::specs::Links::is_linked))]
 pub fn is_linked(picked: &[u16; PICKS], a: usize, b: usize) -> bool
     requires { (a < point_bound) × (b < point_bound) }
     ensures { result ≡ is_linked picked.now a b }
@@ -64,24 +58,15 @@ pub fn is_linked(picked: &[u16; PICKS], a: usize, b: usize) -> bool
 
 // Rows: most vertices are linked to near ones only, so a row ends at the last that it can have.
 
-fn larger(x: u16, y: u16) -> u16
-    ensures { (x ≤ result) × (y ≤ result) }
-{
-    if x < y {
-        return y;
-    }
-    x
-}
-
 // The a-th of n vertices picks the b-th, or none: each of the two reaches the other.
 fn widen(last: &mut [u16; POINTS], n: usize, a: usize, b: u16)
     requires { (a < n) × ((n ≤ point_bound) × (length last.old ≡ point_bound)) }
     ensures { Widened n a b last.old last.new }
 {
-    let c = b as usize;
+    let c = usize::from(b);
     if c < n {
-        last[a] = larger(last[a], b);
-        last[c] = larger(last[c], picks::narrow(a));
+        last[a] = last[a].max(b);
+        last[c] = last[c].max(picks::narrow(a));
     }
 }
 
@@ -91,11 +76,9 @@ fn widen_four(picked: &[u16; PICKS], n: usize, k: usize, last: &mut [u16; POINTS
     requires reached { Reached picked.now last.old n k }
     ensures { (length last.new ≡ point_bound) × (Reached picked.now last.new n (k + 1)) }
 {
-    let i = k * 4;
-    widen(&mut *last, n, k, picked[i]);
-    widen(&mut *last, n, k, picked[i + 1]);
-    widen(&mut *last, n, k, picked[i + 2]);
-    widen(&mut *last, n, k, picked[i + 3]);
+    for i in 0..4 {
+        widen(last, n, k, picked[k * 4 + i]);
+    }
 }
 
 // A number for each of n vertices that none linked to it exceeds.
@@ -103,10 +86,8 @@ pub fn reach(picked: &[u16; PICKS], n: usize, last: &mut [u16; POINTS])
     requires { (n ≤ point_bound) × (length last.old ≡ point_bound) }
     ensures { Reached picked.now last.new n n }
 {
-    let mut k = 0;
-    while k < n {
-        widen_four(picked, n, k, &mut *last);
-        k += 1;
+    for k in 0..n {
+        widen_four(picked, n, k, last);
     }
 }
 
@@ -115,12 +96,5 @@ pub fn row_end(n: usize, a: usize, last: u16) -> usize
     requires { (a < n) × (n ≤ point_bound) }
     ensures { ((a < result) × (result ≤ n)) × ((last < result) ⊎ (result ≡ n)) }
 {
-    let far = last as usize;
-    if far < a {
-        return a + 1;
-    }
-    if far < n {
-        return far + 1;
-    }
-    n
+    (usize::from(last).max(a) + 1).min(n)
 }

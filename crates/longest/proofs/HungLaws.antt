@@ -254,9 +254,6 @@ pub record Going (ks el : List ℕ) (e n c d k : ℕ) (s : Ties) (r : Reach) : T
   pub still : d ≡ c → at ≡ r
 
 module _ (ks el : List ℕ) (e n c : ℕ) (r : Reach) where
-  pub going_start : (s : Ties) → Hung ks el e n c s r → Going ks el e n c c 0 s r
-  going_start s h = record { at = r; rest = turns-none (pass ks el n) e r; hung = h; still = λ _. refl }
-
   pub going_next : (d k d' : ℕ) (s s' : Ties) (g : Going ks el e n c d k s r) → k < e → c ≤ d → d ≤ d' →
       (Hung ks el e n d' s' (pass ks el n k g.at) × (d' ≡ d → pass ks el n k g.at ≡ g.at)) → Going ks el e n c d' (k + 1) s' r
   going_next d k d' s s' g hk l m p = record {

@@ -18,27 +18,10 @@ use Rattle.longest.specs.Longest.{Reach, attach, hang, longer, measure, edge_cos
 use Rattle.tree.specs.Table.{Small, first_end, key, tree_bound, second_end}
 use Rattle.lists.proofs.TurnLaws.{turns-keep}
 
-pub cost-is : (w : Weights) (pts : List ℤ) (keys : List ℕ) (k d : ℕ) (p q : Place) → p ≡ place_at pts (first_end (get_or keys k 0))
-    → q ≡ place_at pts (second_end (get_or keys k 0)) → d ≡ cost w p q → d ≡ edge_cost w pts keys k
-unfolding edge_cost
-cost-is w pts keys k d p q e f g = rw (g, e, f) refl
-
 pub measure-is : (w : Weights) (pts : List ℤ) (keys : List ℕ) (k d : ℕ) (el : List ℕ) → d ≡ edge_cost w pts keys k
     → set el k d ≡ measure w pts keys k el
 unfolding measure
 measure-is w pts keys k d el e = rw e refl
-
-pub wins-lt : (w : List ℕ) (q j : ℕ) → get_or w j 0 < get_or w q 0 → true ≡ wins w q j
-unfolding wins
-wins-lt w q j h = rw (wins, lt-ltb _ _ h) refl
-
-pub wins-gt : (w : List ℕ) (q j : ℕ) → get_or w q 0 ≤ get_or w j 0 → get_or w q 0 < get_or w j 0 → false ≡ wins w q j
-unfolding wins
-wins-gt w q j h i = rw (wins, le-ltb _ _ h, lt-ltb _ _ i) refl
-
-pub wins-eq : (w : List ℕ) (q j : ℕ) → get_or w q 0 ≤ get_or w j 0 → get_or w j 0 ≤ get_or w q 0 → ltb q j ≡ wins w q j
-unfolding wins
-wins-eq w q j h i = rw (wins, le-ltb _ _ h, le-ltb _ _ i) refl
 
 pub longer-yes : (w : List ℕ) (k l : ℕ) → wins w k l ≡ true → k ≡ longer w k l
 unfolding longer

@@ -39,12 +39,6 @@ was-not row i x v h l k =
     (λ q. absurd (let z : ⊥ = omega (arith, k, h, ap (λ (j : ℕ). get_or (set row i x) j 0) (eqb-true i v q), put-here row i x l) in z))
     (λ q. let d = eqb-false i v q in (d, omega (arith, k, other row i v x d)))
 
-pub begun-set : (s : Ties) (row : List ℕ) (i x : ℕ) → x < tree_bound → Begun s row → Begun s (set row i x)
-begun-set s row i x h b = record {
-  room = length-set row i x ∙ b.room;
-  first = λ v q. known-set row i x v h (b.first v q);
-}
-
 -- a row in which nothing is known
 pub fresh_start : (s : Ties) → Tied s → Fresh s (replicate tree_bound tree_bound)
 fresh_start s tied v g = omega (arith, same-entry tree_bound tree_bound v (tied.low v g))
@@ -64,10 +58,6 @@ pub record Chain (el : List ℕ) (s : Ties) (t : List ℕ) (x v l : ℕ) (row : 
   pub here : Known row x
   pub below : turn_of s v ≤ turn_of s x
 
-pub cut-known : (el : List ℕ) (s : Ties) (f : ℕ → ℕ) (row : List ℕ) (v x : ℕ) → x ≡ get_or row v 0 → x < tree_bound → 0 < turn_of s v →
-    Row el s f row → (x ≡ f v) × Row el s f row
-cut-known el s f row v x q h g r = (q ∙ r.right v g (omega (arith, q, h)), r)
-
 module _ (el : List ℕ) (s : Ties) (tied : Tied s) where
   -- Filling in
 
@@ -75,20 +65,6 @@ module _ (el : List ℕ) (s : Ties) (tied : Tied s) where
       (q : l ≡ longer el y (link_of s v)) (b : Row el s f before) (e : y ≡ f (onto_of s v)) where
     pub fill_is : l ≡ f v
     fill_is = q ∙ ap (λ (z : ℕ). longer el z (link_of s v)) e ∙ sym (b.grows v g un)
-
-    pub fill-row : (row : List ℕ) (z : ℕ) → length row ≡ tree_bound → l < tree_bound → z ≡ l → Row el s f row → Row el s f (set row v z)
-    fill-row row z room hl p r =
-        let i : v < length row = rw room (tied.low v g) in
-        let k : Row el s f (set row v l) = record {
-          right = λ w h k.
-              by (eqb v w)
-              (λ t.
-              let z = eqb-true v w t in
-              ap (λ (j : ℕ). get_or (set row v l) j 0) (sym z) ∙ put-here row v l i ∙ fill_is ∙ ap f z)
-              (λ t. let d = eqb-false v w t in other row v w l d ∙ r.right w h (was-known row v l w d k));
-          grows = λ w h k. r.grows w h (was-not row v l w hl i k).1;
-        } in
-        subst (λ (x : ℕ). Row el s f (set row v x)) (sym p) k
 
   module _ (t : List ℕ) (told : Told el s t) where
     pub chain-start : (x : ℕ) (row : List ℕ) → 0 < turn_of s x → length row ≡ tree_bound → Fresh s row →
@@ -157,12 +133,6 @@ module _ (el : List ℕ) (s : Ties) (tied : Tied s) where
       closed = λ w a k. c.closed w a k (λ q. let z : ⊥ = omega (arith, a, h, ap (turn_of s) q) in z);
       here = c.here;
     }
-
-  pub begun-end : (v : ℕ) (row : List ℕ) → 0 < turn_of s v → turn_of s v ≤ 1 → Known row v → length row ≡ tree_bound → Begun s row
-  begun-end v row g h k room = record {
-    room = room;
-    first = λ w q. subst (Known row) (tied.alone v w g (omega (arith, g, h, q))) k;
-  }
 
   -- A point that is not known hangs outside the ways of those that are
 

@@ -18,6 +18,7 @@ pub const NONE: u16 = (POINTS - 1) as u16;
 pub const UNKNOWN: u16 = POINTS as u16;
 
 // What the edge k costs.
+#[tactic(auto, unfolding(crate::specs::Longest::edge_cost))]
 pub fn edge_cost(w: Weights, pts: &[i32; NUMBERS], keys: &[usize; POINTS], k: usize) -> u64
     requires { (k < tree_bound) × (Small pair_bound keys.now) }
     ensures { (result ≡ edge_cost w pts.now keys.now k) × (result < cost_limit) }
@@ -44,63 +45,39 @@ pub fn costs(
     ensures low_2 { Low result el.new }
 {
     let mut most = 0;
-    let mut k = 0;
-    while k < e {
+    for k in 0..e {
         let d = edge_cost(w, pts, keys, k);
         el[k] = d;
-        k += 1;
-        if most < d {
-            most = d;
-        }
+        most = d.max(most);
     }
     most
 }
 
+// Whether the edge k is longer than l, or as long with a smaller number.
+#[tactic(auto, unfolding(crate::specs::Longest::wins))]
 fn wins(el: &[u64; POINTS], k: usize, l: usize) -> bool
     requires { (k < tree_bound) × (l < tree_bound) }
     ensures { result ≡ wins el.now k l }
 {
-    if el[l] < el[k] {
-        return true;
-    }
-    if el[k] < el[l] {
-        return false;
-    }
-    k < l
+    el[l] < el[k] || el[l] == el[k] && k < l
 }
 
+// Of two edges the one that wins.
+#[tactic(auto, unfolding(crate::specs::Longest::longer))]
 fn longer(el: &[u64; POINTS], k: usize, l: usize) -> usize
     requires { (k < tree_bound) × (l < tree_bound) }
     ensures { (result ≡ longer el.now k l) × (result < tree_bound) }
 {
-    if wins(el, k, l) {
-        return k;
-    }
-    l
+    if wins(el, k, l) { k } else { l }
 }
 
 // Of two edges the one that does not win.
+#[tactic(auto, unfolding(crate::specs::Longest::shorter))]
 pub fn shorter(el: &[u64; POINTS], k: usize, l: usize) -> usize
     requires { (k < tree_bound) × (l < tree_bound) }
     ensures { (result ≡ shorter el.now k l) × (result < tree_bound) }
 {
-    if wins(el, k, l) {
-        return l;
-    }
-    k
-}
-
-fn wide(x: u16) -> usize
-    ensures { result ≡ x }
-{
-    x as usize
-}
-
-fn narrow(x: usize) -> u16
-    requires { x < tree_bound }
-    ensures { result ≡ x }
-{
-    x as u16
+    if wins(el, k, l) { l } else { k }
 }
 
 // The point v hangs on p by the edge k, at turn c.
@@ -140,18 +117,18 @@ fn attach(
         → (Hung ks el e n result (ties onto.new link.new turn.new) (pass ks el n k r))
         × (result ≡ c → pass ks el n k r ≡ r) }
 {
-    if turn[a] == 0 {
-        if turn[b] == 0 {
-            return c;
+    match (turn[a], turn[b]) {
+        (0, 0) => c,
+        (0, _) => {
+            hang(a, b, k, c + 1, onto, link, turn);
+            c + 1
         }
-        hang(a, b, k, c + 1, &mut *onto, &mut *link, &mut *turn);
-        return c + 1;
+        (_, 0) => {
+            hang(b, a, k, c + 1, onto, link, turn);
+            c + 1
+        }
+        _ => c,
     }
-    if turn[b] == 0 {
-        hang(b, a, k, c + 1, &mut *onto, &mut *link, &mut *turn);
-        return c + 1;
-    }
-    c
 }
 
 // A pass over all edges; how many points hang after it.
@@ -172,19 +149,9 @@ fn pass(
         × (result ≡ c → turns (pass keys.now el n) 0 e r ≡ r) }
 {
     let mut d = c;
-    let mut k = 0;
-    while k < e {
+    for k in 0..e {
         let q = keys[k];
-        d = attach(
-            q / POINTS,
-            q % POINTS,
-            k,
-            d,
-            &mut *onto,
-            &mut *link,
-            &mut *turn,
-        );
-        k += 1;
+        d = attach(q / POINTS, q % POINTS, k, d, onto, link, turn);
     }
     d
 }
@@ -204,14 +171,12 @@ pub fn reached(
         (reached keys.now el e n r) }
 {
     let mut c = 1;
-    let mut i = 0;
-    while i < e {
-        let d = pass(keys, e, c, &mut *onto, &mut *link, &mut *turn);
+    for _ in 0..e {
+        let d = pass(keys, e, c, onto, link, turn);
         if d == c {
             return c;
         }
         c = d;
-        i += 1;
     }
     c
 }
@@ -234,10 +199,11 @@ fn climb(
     row[x] = NONE;
     let mut l = POINTS - 1;
     let mut v = x;
+    // Kept: v goes from each point to the one that it hangs on, which no range gives.
     while 1 < turn[v] {
         l = longer(el, l, link[v]);
         v = onto[v];
-        row[v] = narrow(l);
+        row[v] = l as u16;
     }
 }
 
@@ -256,7 +222,7 @@ pub fn row_of(
         → Fresh (ties onto.now link.now turn.now) row.old
         → Row el.now (ties onto.now link.now turn.now) (top_of t x) row.new }
 {
-    climb(el, onto, link, turn, x, &mut *row);
+    climb(el, onto, link, turn, x, row);
 }
 
 // The row of the edge from a to b at both of them and at all that they hang on.
@@ -279,12 +245,12 @@ pub fn start(
         (cut_of el.now t a b) row.new }
 {
     if turn[a] < turn[b] {
-        climb(el, onto, link, turn, a, &mut *row);
+        climb(el, onto, link, turn, a, row);
         row[b] = NONE;
-        return;
+    } else {
+        climb(el, onto, link, turn, b, row);
+        row[a] = NONE;
     }
-    climb(el, onto, link, turn, b, &mut *row);
-    row[a] = NONE;
 }
 
 // The row at v, filled in at v and at what v hangs on where it is not known. The turn falls with each call.
@@ -303,15 +269,11 @@ pub fn cut_at(
         row.old
         → (result ≡ f v) × (Row el.now (ties onto.now link.now turn.now) f row.new) }
 {
-    let x = wide(row[v]);
+    let x = usize::from(row[v]);
     if x < POINTS {
         return x;
     }
-    let l = longer(
-        el,
-        cut_at(el, onto, link, turn, onto[v], &mut *row),
-        link[v],
-    );
-    row[v] = narrow(l);
+    let l = longer(el, cut_at(el, onto, link, turn, onto[v], row), link[v]);
+    row[v] = l as u16;
     l
 }

@@ -9,10 +9,12 @@ ghost use Rattle.net.specs.Net.{net_of, handed};
 ghost use Rattle.net.specs.Bounds.{tree_bound};
 ghost use Rattle.net.specs.Pins.{pin_count};
 ghost use Rattle.terminal.specs.Tree.{paths_of, total_of, path_numbers};
+ghost use Rattle.terminal.specs.Tables.{Fresh, Worked};
 ghost use Rattle.union.specs.Union.{union_of};
 ghost use Rattle.refiner.specs.Refined.{Answer};
 ghost use Rattle.refined.specs.Ground.{ground_of};
 ghost use Rattle.made.specs.Counted.{Counted};
+ghost use Rattle.made.specs.Tables.{begun, worked_in};
 ghost use Rattle.made.specs.Trees.{refined_part};
 
 use net::Net;
@@ -28,6 +30,71 @@ pub struct Trees {
     pub terminal: u64,
 }
 
+// The tables that a terminal tree is worked out in.
+#[derive(Drop)]
+struct Tables {
+    vertices: [i32; VERTEX_NUMBERS],
+    edges: [i32; EDGE_NUMBERS],
+    ea: [usize; EDGES],
+    eb: [usize; EDGES],
+    el: [u64; EDGES],
+    pin: [usize; POINTS],
+    far: [u64; POINTS],
+    root: [usize; POINTS],
+    up: [usize; POINTS],
+    via: [usize; POINTS],
+    kept: [usize; EDGES],
+    long: [u64; EDGES],
+}
+
+// Blank ones, written where they are bound: a constant or a function's result is built beside them, for 170 KiB of stack more.
+macro_rules! blank {
+    () => {
+        Tables {
+            vertices: [0; VERTEX_NUMBERS],
+            edges: [0; EDGE_NUMBERS],
+            ea: [0; EDGES],
+            eb: [0; EDGES],
+            el: [0; EDGES],
+            pin: [0; POINTS],
+            far: [0; POINTS],
+            root: [0; POINTS],
+            up: [0; POINTS],
+            via: [0; POINTS],
+            kept: [0; EDGES],
+            long: [0; EDGES],
+        }
+    };
+}
+
+// The terminal tree of an allowed net, in tables that are blank.
+fn work(net: Net, pins: &[i32], macros: &[i32], t: &mut Tables) -> TerminalTree
+    requires counted { Counted net (handed net.weights) pins.now macros.now }
+    requires fresh { Fresh (begun t.old) }
+    ensures { Worked (net_of (handed net.weights) pins.now macros.now) (begun t.old) (worked_in t.new) result }
+{
+    t.far.fill(forest::UNREACHED);
+    t.up.fill(POINTS);
+    t.via.fill(EDGES);
+    terminal::terminal_tree(
+        net.weights,
+        pins,
+        macros,
+        &mut t.vertices,
+        &mut t.edges,
+        &mut t.ea,
+        &mut t.eb,
+        &mut t.el,
+        &mut t.pin,
+        &mut t.far,
+        &mut t.root,
+        &mut t.up,
+        &mut t.via,
+        &mut t.kept,
+        &mut t.long,
+    )
+}
+
 // The terminal tree of an allowed net, its paths given.
 pub fn terminal_tree(net: Net, pins: &[i32], macros: &[i32], paths: &mut [i64]) -> TerminalTree
     requires counted { Counted net (handed net.weights) pins.now macros.now }
@@ -37,36 +104,9 @@ pub fn terminal_tree(net: Net, pins: &[i32], macros: &[i32], paths: &mut [i64]) 
     ensures paths_after { paths.new ≡ over (flat path_numbers (paths_of (net_of (handed net.weights) pins.now
         macros.now))) paths.old }
 {
-    let mut vertices = [0i32; VERTEX_NUMBERS];
-    let mut edges = [0i32; EDGE_NUMBERS];
-    let mut ea = [0usize; EDGES];
-    let mut eb = [0usize; EDGES];
-    let mut el = [0u64; EDGES];
-    let mut pin = [0usize; POINTS];
-    let mut far = [forest::UNREACHED; POINTS];
-    let mut root = [0usize; POINTS];
-    let mut up = [POINTS; POINTS];
-    let mut via = [EDGES; POINTS];
-    let mut kept = [0usize; EDGES];
-    let mut long = [0u64; EDGES];
-    let tree = terminal::terminal_tree(
-        net.weights,
-        pins,
-        macros,
-        &mut vertices,
-        &mut edges,
-        &mut ea,
-        &mut eb,
-        &mut el,
-        &mut pin,
-        &mut far,
-        &mut root,
-        &mut up,
-        &mut via,
-        &mut kept,
-        &mut long,
-    );
-    terminal::give_paths(&edges, &kept, &long, tree.kept, &mut *paths);
+    let mut t = blank!();
+    let tree = work(net, pins, macros, &mut t);
+    terminal::give_paths(&t.edges, &t.kept, &t.long, tree.kept, paths);
     tree
 }
 
@@ -86,65 +126,38 @@ pub fn refine(
         (refined_part result) }
     ensures terminal_value { result.terminal ≡ total_of (net_of (handed net.weights) pins.now macros.now) }
 {
-    let mut vertices = [0i32; VERTEX_NUMBERS];
-    let mut edges = [0i32; EDGE_NUMBERS];
-    let mut ea = [0usize; EDGES];
-    let mut eb = [0usize; EDGES];
-    let mut el = [0u64; EDGES];
-    let mut pin = [0usize; POINTS];
-    let mut far = [forest::UNREACHED; POINTS];
-    let mut root = [0usize; POINTS];
-    let mut up = [POINTS; POINTS];
-    let mut via = [EDGES; POINTS];
-    let mut kept = [0usize; EDGES];
-    let mut long = [0u64; EDGES];
-    let tree = terminal::terminal_tree(
-        net.weights,
-        pins,
-        macros,
-        &mut vertices,
-        &mut edges,
-        &mut ea,
-        &mut eb,
-        &mut el,
-        &mut pin,
-        &mut far,
-        &mut root,
-        &mut up,
-        &mut via,
-        &mut kept,
-        &mut long,
-    );
+    let mut t = blank!();
+    let tree = work(net, pins, macros, &mut t);
     let start = union::start(
-        &vertices,
+        &t.vertices,
         tree.points,
-        &ea,
-        &eb,
-        &el,
+        &t.ea,
+        &t.eb,
+        &t.el,
         tree.edges,
-        &pin,
+        &t.pin,
         tree.pins,
-        &far,
-        &up,
-        &via,
-        &kept,
+        &t.far,
+        &t.up,
+        &t.via,
+        &t.kept,
         tree.kept,
-        &mut *points,
-        &mut *keys,
+        points,
+        keys,
     );
     let refined = refiner::refine(
         net,
         pins,
         macros,
-        &mut *points,
+        points,
         start.points,
-        &mut *keys,
+        keys,
         start.edges,
-        &vertices,
+        &t.vertices,
         tree.points,
-        &ea,
-        &eb,
-        &el,
+        &t.ea,
+        &t.eb,
+        &t.el,
         tree.edges,
     );
     Trees {

@@ -61,9 +61,8 @@ module _ (pts : List ℤ) (p : Place) where
       pub seat-past : n ≤ r → 0 ≡ seat_of pts n p
       seat-past h = seat-none n (λ i l. not_at i l (λ e. let z : ⊥ = omega (arith, e, is) in z))
 
-      pub seat-there : r < n → chosen (same r) r 0 ≡ seat_of pts n p
-      unfolding chosen
-      seat-there h =
-          by (same r)
-          (λ e. rw e (seat-one r n h e (λ i l k. not_at i l (λ j. let z : ⊥ = omega (arith, j, is, k) in z))))
-          (λ e. rw e (seat-none n (λ i l. by (same i) (λ g. differ (ap same (is ∙ sym (at-rank i l g)) ∙ g) e) (λ g. g))))
+      pub seat-there : r < n → same r ≡ true → r ≡ seat_of pts n p
+      seat-there h e = seat-one r n h e (λ i l k. not_at i l (λ j. let z : ⊥ = omega (arith, j, is, k) in z))
+
+      pub seat_not : r < n → same r ≡ false → 0 ≡ seat_of pts n p
+      seat_not h e = seat-none n (λ i l. by (same i) (λ g. differ (ap same (is ∙ sym (at-rank i l g)) ∙ g) e) (λ g. g))

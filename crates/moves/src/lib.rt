@@ -11,7 +11,7 @@ ghost use Rattle.slide.specs.Side.{horizontal};
 ghost use Rattle.slide.specs.Slide.{better};
 ghost use Rattle.straight.specs.Table.{straight_bound};
 ghost use Rattle.turned.specs.Turned.{view};
-ghost use Rattle.moves.specs.Moving.{opposite, weight_in, label_view, Seated, held, chosen, last_on, bar, seat_of, seats_of};
+ghost use Rattle.moves.specs.Moving.{opposite, weight_in, label_view, Seated, held, last_on, bar, seat_of, seats_of};
 
 use net::Net;
 use plane::{Place, Weights};
@@ -25,12 +25,7 @@ pub const PINS: usize = Net::PINS;
 pub fn is_horizontal(s: Side) -> bool
     ensures { result ≡ horizontal s }
 {
-    match s {
-        Side::Above => true,
-        Side::Below => true,
-        Side::Right => false,
-        Side::Left => false,
-    }
+    matches!(s, Side::Above | Side::Below)
 }
 
 // The side that lies opposite.
@@ -49,31 +44,20 @@ pub fn opposite(s: Side) -> Side
 pub fn weight_of(w: Weights, s: Side) -> u64
     ensures { (result ≡ weight_in w s) × (result < 2 ^ 8) }
 {
-    if is_horizontal(s) {
-        return w.along as u64;
-    }
-    w.across as u64
+    u64::from(if is_horizontal(s) { w.along } else { w.across })
 }
 
 // The greatest saving, then the smallest first place, then a horizontal bar.
 pub fn is_better(m: Move, n: Move) -> bool
     ensures { result ≡ better m n }
 {
-    if n.saving < m.saving {
-        return true;
+    if m.saving != n.saving {
+        n.saving < m.saving
+    } else if plane::is_same_place(m.first, n.first) {
+        is_horizontal(m.side) & !is_horizontal(n.side)
+    } else {
+        plane::is_before(m.first, n.first)
     }
-    if m.saving < n.saving {
-        return false;
-    }
-    if plane::is_before(m.first, n.first) {
-        return true;
-    }
-    if plane::is_before(n.first, m.first) {
-        return false;
-    }
-    let s = m.side;
-    let t = n.side;
-    is_horizontal(s) & !is_horizontal(t)
 }
 
 // A pin has the label l; a pin is known by the number of its point.
@@ -81,36 +65,25 @@ pub fn is_held(seats: &[usize; PINS], m: usize, lab: &[usize; POINTS], l: usize)
     requires { (m ≤ pin_bound) × (Seated m seats.now) }
     ensures { result ≡ held (label_view lab.now l) seats.now m }
 {
-    let mut held = false;
-    let mut i = 0;
-    while i < m {
-        held = held | (lab[seats[i]] == l);
-        i += 1;
+    for i in 0..m {
+        if lab[seats[i]] == l {
+            return true;
+        }
     }
-    held
+    false
 }
 
-fn chosen(t: bool, a: usize, b: usize) -> usize
-    ensures { result ≡ chosen t a b }
-{
-    if t {
-        return a;
-    }
-    b
-}
-
-// The last point with the label l.
+// The last of the first n points with the label l; l where none has it.
 fn last_of(lab: &[usize; POINTS], n: usize, l: usize) -> usize
     requires { (n ≤ straight_bound) × (l < straight_bound) }
     ensures { (result ≡ last_on (label_view lab.now l) n) × (result < straight_bound) }
 {
-    let mut last = l;
-    let mut i = 0;
-    while i < n {
-        last = chosen(lab[i] == l, i, last);
-        i += 1;
+    for i in (0..n).rev() {
+        if lab[i] == l {
+            return i;
+        }
     }
-    last
+    l
 }
 
 // The bar with label l as it moves to side s by at most d.
@@ -130,23 +103,24 @@ pub fn bar_of(
     Bar {
         side: s,
         label: l,
-        first: first,
-        last: last,
+        first,
+        last,
         most: d,
         top: first.across + d,
     }
 }
 
-// The number of the point at p, found by halving.
+// The number of the point at p, found by halving; 0 where none is.
 fn seat_of(pts: &[i32; NUMBERS], n: usize, p: Place) -> usize
     requires { (n ≤ straight_bound) × (InOrder pts.now n) }
     ensures { (result ≡ seat_of pts.now n p) × (result < straight_bound) }
 {
     let at = plane::rank(pts, n, p);
-    if n <= at {
-        return 0;
+    if at < n && plane::is_same_place(p, straight::point_at(pts, at)) {
+        at
+    } else {
+        0
     }
-    chosen(plane::is_same_place(p, straight::point_at(pts, at)), at, 0)
 }
 
 // The numbers of the points of the first m pins.
@@ -154,9 +128,7 @@ pub fn seat(pts: &[i32; NUMBERS], n: usize, pins: &[i32], m: usize, seats: &mut 
     requires { ((n ≤ straight_bound) × (InOrder pts.now n)) × ((m ≤ pin_bound) × (m ≤ pin_count pins.now)) }
     ensures { seats.new ≡ seats_of pts.now n pins.now m seats.old }
 {
-    let mut j = 0;
-    while j < m {
+    for j in 0..m {
         seats[j] = seat_of(pts, n, net::pin_at(pins, j));
-        j += 1;
     }
 }

@@ -26,6 +26,8 @@ use Rattle.plane.specs.Cost.{cost}
 use Rattle.plane.proofs.DistanceLaws.{apart-comm, apart-self, apart-ordered}
 use Rattle.near.specs.Box.{box_of, outside, box_cost, FarLeft, FarRight}
 
+-- std's smaller and greater of two numbers
+
 -- The box itself
 
 -- of two points of a table

@@ -7,4 +7,3 @@ pub mod AllowedLaws
 pub mod HandedLaws
 pub mod RangeBounds
 pub mod ApartLaws
-pub mod WeighingFits

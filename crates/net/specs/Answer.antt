@@ -1,5 +1,6 @@
--- The number of each refusal: rules C1 to C41.
-use Rattle.std.specs.Prelude.{ℕ}
+-- The number of each refusal, and what an answer of the code says: rules C1 to C41.
+use Rattle.std.specs.Prelude.{ℕ, Result, Ok, Err}
+use Rattle.lent.specs.Told.{Told, refused, given}
 use Rattle.net.specs.declared.Refusal.{Refusal}
 use Rattle.net.specs.declared.Refusal.TheVariants.{Blocks, Sums, Layout, PinList, MacroList, Range, Sides, SamePlace, Overlap}
 use Rattle.net.specs.declared.Refusal.TheVariants.{PinInside, WeightRange, Space, Bands, Reach, BandOrder, GridSize}
@@ -30,3 +31,8 @@ number BestSize = 41
 number TechnologyRange = 38
 number DriverNotPin = 39
 number DelayNotFinite = 40
+
+-- C50, C52: what the code gives is told by f, and what it refuses by its number
+unfoldable pub told_by : {T A : Type 0} → (T → A) → Result T Refusal → Told A
+told_by f (Ok t) = given (f t)
+told_by f (Err r) = refused (number r)

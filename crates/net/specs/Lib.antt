@@ -19,6 +19,7 @@
 --              weights_of w, handed w                     the weights that they are, and the other way
 --              cost_in net a b                            what metal between two places costs in a net
 --   Answer     number f                                  the number of a refusal
+--              told_by f r                               what an answer of the code says
 --   Counts     counted w m k, counts_of w pins macros     what the code's check gives: m, k and the weights
 --              point_count counts                         m + 4k
 --   Tests      pins_miscounted .. weights_wrong            the tests, 11 to 14, 17 and 18

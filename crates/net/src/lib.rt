@@ -1,12 +1,15 @@
 // The net: its bounds, its pins read, and the tests of it, each of one entry or one count.
 #![tactic(auto)]
 
-ghost use Rattle.std.specs.Prelude.{false, ◌≡◌, ◌+◌, ◌*◌, ◌≤◌, ◌<◌, pos, length};
+ghost use Rattle.std.specs.Prelude.{false, cond, Ok, Err, ◌≡◌, ◌+◌, ◌*◌, ◌≤◌, ◌<◌, pos, length};
 ghost use Rattle.std.proofs.lemmas.List.Edits.{sets};
+ghost use Rattle.lists.specs.Any.{any};
 ghost use Rattle.signed.specs.Sides.{up};
+ghost use Rattle.plane.specs.Place.{same_place};
 ghost use Rattle.net.specs.Bounds.{pin_bound, macro_bound, pin_width};
-ghost use Rattle.net.specs.Pins.{pin_count, pin_at, load_at, pin_numbers, bare, macro_count};
+ghost use Rattle.net.specs.Pins.{pin_count, pin_places, pin_at, load_at, pin_numbers, bare, macro_count};
 ghost use Rattle.net.specs.Net.{weights_of, handed};
+ghost use Rattle.net.specs.declared.Refusal.TheVariants.{WeightRange};
 ghost use Rattle.net.specs.Answer.{number};
 ghost use Rattle.net.specs.Counts.{point_count};
 ghost use Rattle.net.specs.Tests.{pins_miscounted, macros_miscounted, out_of_range, place_out, no_load, not_upright, no_weight, weights_wrong};
@@ -62,32 +65,32 @@ pub struct Weighing {
     pub second: i32,
 }
 
-// Why an operation refuses; `number` in specs/Answer.antt has the number of each (C1 to C41).
-#[derive(Clone, Copy)]
+// Why an operation refuses, each with its number (C1 to C41), which `number` in specs/Answer.antt states.
+#[derive(Clone, Copy, Debug, PartialEq, Eq)]
 pub enum Refusal {
-    Blocks,
-    Sums,
-    Layout,
-    PinList,
-    MacroList,
-    Range,
-    Sides,
-    SamePlace,
-    Overlap,
-    PinInside,
-    WeightRange,
-    Space,
-    Bands,
-    Reach,
-    BandOrder,
-    GridSize,
-    EdgeList,
-    EdgeNotClear,
-    NotATree,
-    BestSize,
-    TechnologyRange,
-    DriverNotPin,
-    DelayNotFinite,
+    Blocks = 1,
+    Sums = 2,
+    Layout = 3,
+    PinList = 11,
+    MacroList = 12,
+    Range = 13,
+    Sides = 14,
+    SamePlace = 15,
+    Overlap = 16,
+    PinInside = 17,
+    WeightRange = 18,
+    Space = 21,
+    Bands = 31,
+    Reach = 32,
+    BandOrder = 37,
+    GridSize = 36,
+    EdgeList = 33,
+    EdgeNotClear = 34,
+    NotATree = 35,
+    BestSize = 41,
+    TechnologyRange = 38,
+    DriverNotPin = 39,
+    DelayNotFinite = 40,
 }
 
 impl Refusal {
@@ -95,35 +98,12 @@ impl Refusal {
     pub fn number(self) -> i32
         ensures { result ≡ pos (number self) }
     {
-        match self {
-            Refusal::Blocks => 1,
-            Refusal::Sums => 2,
-            Refusal::Layout => 3,
-            Refusal::PinList => 11,
-            Refusal::MacroList => 12,
-            Refusal::Range => 13,
-            Refusal::Sides => 14,
-            Refusal::SamePlace => 15,
-            Refusal::Overlap => 16,
-            Refusal::PinInside => 17,
-            Refusal::WeightRange => 18,
-            Refusal::Space => 21,
-            Refusal::Bands => 31,
-            Refusal::Reach => 32,
-            Refusal::BandOrder => 37,
-            Refusal::GridSize => 36,
-            Refusal::EdgeList => 33,
-            Refusal::EdgeNotClear => 34,
-            Refusal::NotATree => 35,
-            Refusal::BestSize => 41,
-            Refusal::TechnologyRange => 38,
-            Refusal::DriverNotPin => 39,
-            Refusal::DelayNotFinite => 40,
-        }
+        self as i32
     }
 }
 
 // How many pins a list holds.
+#[tactic(auto, unfolding(crate::specs::Pins::pin_count))]
 pub fn pin_count(pins: &[i32]) -> usize
     ensures { result ≡ pin_count pins.now }
 {
@@ -131,6 +111,7 @@ pub fn pin_count(pins: &[i32]) -> usize
 }
 
 // The place of the pin numbered i.
+#[tactic(auto, unfolding(crate::specs::Pins::pin_count))]
 pub fn pin_at(pins: &[i32], i: usize) -> Place
     requires { i < pin_count pins.now }
     ensures { result ≡ pin_at pins.now i }
@@ -143,11 +124,24 @@ pub fn pin_at(pins: &[i32], i: usize) -> Place
 }
 
 // The load of the pin numbered i.
+#[tactic(auto, unfolding(crate::specs::Pins::pin_count))]
 pub fn load_at(pins: &[i32], i: usize) -> i32
     requires { i < pin_count pins.now }
     ensures { result ≡ load_at pins.now i }
 {
     pins[i * Net::PIN_NUMBERS + 2]
+}
+
+// Whether a pin is at p.
+pub fn is_pin(pins: &[i32], p: Place) -> bool
+    ensures { result ≡ any (same_place p) (pin_places pins.now) }
+{
+    for i in 0..pin_count(pins) {
+        if plane::is_same_place(p, pin_at(pins, i)) {
+            return true;
+        }
+    }
+    false
 }
 
 // p as the i-th pin of a list, without a load.
@@ -156,10 +150,8 @@ pub fn put_bare_pin(pins: &mut [i32], i: usize, p: Place)
     ensures { pins.new ≡ sets pins.old (i * pin_width) (pin_numbers (bare p)) }
 {
     let k = i * Net::PIN_NUMBERS;
-    let x = p.x;
-    let y = p.y;
-    pins[k] = x;
-    pins[k + 1] = y;
+    pins[k] = p.x;
+    pins[k + 1] = p.y;
     pins[k + 2] = 0;
 }
 
@@ -180,6 +172,7 @@ pub fn point_count(net: Net) -> usize
 }
 
 // Refusal 11: numbers left over past the last whole pin, no pin, or more than the bound.
+#[tactic(auto, unfolding(crate::specs::Tests::pins_miscounted_within))]
 pub fn pins_miscounted(pins: &[i32]) -> bool
     ensures { result ≡ pins_miscounted pins.now }
 {
@@ -188,6 +181,7 @@ pub fn pins_miscounted(pins: &[i32]) -> bool
 }
 
 // Refusal 12: numbers left over past the last whole macro, or more macros than the bound.
+#[tactic(auto, unfolding(crate::specs::Tests::macros_miscounted_within))]
 pub fn macros_miscounted(macros: &[i32]) -> bool
     ensures { result ≡ macros_miscounted macros.now }
 {
@@ -196,6 +190,7 @@ pub fn macros_miscounted(macros: &[i32]) -> bool
 }
 
 // Whether a number is farther from 0 than coordinates go.
+#[tactic(auto, unfolding(crate::specs::Tests::out_of_range))]
 pub fn is_out_of_range(z: i32) -> bool
     ensures { result ≡ out_of_range z }
 {
@@ -210,6 +205,7 @@ pub fn is_place_out(p: Place) -> bool
 }
 
 // Whether a number is below 0 or above the greatest load.
+#[tactic(auto, unfolding(crate::specs::Tests::no_load))]
 pub fn is_no_load(z: i32) -> bool
     ensures { result ≡ no_load z }
 {
@@ -217,12 +213,14 @@ pub fn is_no_load(z: i32) -> bool
 }
 
 // Refusal 14, for one macro: no width or no height.
+#[tactic(auto, unfolding(crate::specs::Tests::not_upright))]
 pub fn is_not_upright(m: Macro) -> bool
     ensures { result ≡ not_upright m }
 {
     !(m.left < m.right) | !(m.bottom < m.top)
 }
 
+#[tactic(auto, unfolding(crate::specs::Tests::no_weight))]
 fn is_no_weight(z: i32) -> bool
     ensures { result ≡ no_weight z }
 {
@@ -230,6 +228,7 @@ fn is_no_weight(z: i32) -> bool
 }
 
 // Refusal 18: one of the two weights is outside 1 to 8.
+#[tactic(auto, unfolding(crate::specs::Tests::weights_wrong))]
 pub fn are_weights_wrong(w: Weighing) -> bool
     ensures { result ≡ weights_wrong w }
 {
@@ -237,6 +236,7 @@ pub fn are_weights_wrong(w: Weighing) -> bool
 }
 
 // A weight from 1 to 8 as the net's own struct has it.
+#[tactic(auto, unfolding(crate::specs::Tests::no_weight, signed::specs::Sides::up))]
 fn weight_of(z: i32) -> u8
     requires { no_weight z ≡ false }
     ensures { result ≡ up z }
@@ -245,6 +245,7 @@ fn weight_of(z: i32) -> u8
 }
 
 // The weights of a net as its own struct has them, of two that pass.
+#[tactic(auto, unfolding(crate::specs::Tests::weights_wrong))]
 pub fn weights_of(w: Weighing) -> Weights
     requires { weights_wrong w ≡ false }
     ensures { result ≡ weights_of w }
@@ -255,12 +256,29 @@ pub fn weights_of(w: Weighing) -> Weights
     }
 }
 
+// The same of any two weights, or 18.
+impl TryFrom<Weighing> for Weights {
+    type Error = Refusal;
+
+    ghost try_from_gives = { λ w r. r ≡ cond (weights_wrong w) (Err WeightRange) (Ok (weights_of w)) };
+
+    fn try_from(w: Weighing) -> Result<Weights, Refusal> {
+        if are_weights_wrong(w) {
+            Err(Refusal::WeightRange)
+        } else {
+            Ok(weights_of(w))
+        }
+    }
+}
+
 // The two weights of a net as a caller hands them over.
-pub fn handed(w: Weights) -> Weighing
-    ensures { result ≡ handed w }
-{
-    Weighing {
-        first: w.across as i32,
-        second: w.along as i32,
+impl From<Weights> for Weighing {
+    ghost from_gives = { λ w r. r ≡ handed w };
+
+    fn from(w: Weights) -> Weighing {
+        Weighing {
+            first: i32::from(w.across),
+            second: i32::from(w.along),
+        }
     }
 }

@@ -1,14 +1,13 @@
 -- Write a net file: rules C69 and C70.
-use Rattle.std.specs.Prelude.{cond, List, ℕ, ltb, ℤ, length}
+use Rattle.std.specs.Prelude.{cond, List, ℕ, ltb, ℤ, length, Result}
 use Rattle.lent.specs.Told.{Told, refused, given, only_if}
 use Rattle.net.specs.declared.Weighing.{Weighing}
 use Rattle.net.specs.Net.{weights_of}
-use Rattle.net.specs.Answer.{number}
+use Rattle.net.specs.declared.Refusal.{Refusal}
+use Rattle.net.specs.Answer.{told_by}
 use Rattle.net.specs.Bounds.{Bounds, today}
 use Rattle.checks.specs.Check.{checked_within}
 use Rattle.encoded.specs.Layout.{file_bytes}
-use Rattle.netfile.specs.declared.Written.{Written}
-use Rattle.netfile.specs.declared.Written.TheVariants.{Bytes, Refused}
 
 -- C69: 21 where fewer bytes are lent than the file has; otherwise (C52) how many bytes it has
 unfoldable pub fitted : ℕ → ℕ → Told ℕ
@@ -22,6 +21,5 @@ abbrev pub written : Weighing → List ℤ → List ℤ → ℕ → Told ℕ
 written = written_within today
 
 -- what the code's answer says
-unfoldable pub told_bytes : Written → Told ℕ
-told_bytes (Bytes n) = given n
-told_bytes (Refused f) = refused (number f)
+abbrev pub told_bytes : Result ℕ Refusal → Told ℕ
+told_bytes = told_by (λ n. n)

@@ -15,7 +15,6 @@ ghost use Rattle.netfile.specs.Write.{fitted, written, told_bytes};
 ghost use Rattle.netfile.specs.Read.{laid_out, answer_in, room_short, read_file};
 
 use blocks::{FILE_NUMBERS, FILE_PINS, PIN_COUNT_WORD};
-use checks::Checked;
 use net::{Net, Refusal, Weighing};
 use plane::Weights;
 
@@ -24,15 +23,13 @@ pub const PIN_LIST: usize = Net::PINS * Net::PIN_NUMBERS;
 
 pub const MACRO_LIST: usize = Net::MACROS * Net::MACRO_NUMBERS;
 
-// The answer of a write.
-#[derive(Clone, Copy)]
-pub enum Written {
-    Bytes(usize),
-    Refused(Refusal),
-}
-
 // Write the file of a checked net.
-fn write_checked(w: Weights, pins: &[i32], macros: &[i32], bytes: &mut [u8]) -> Written
+fn write_checked(
+    w: Weights,
+    pins: &[i32],
+    macros: &[i32],
+    bytes: &mut [u8],
+) -> Result<usize, Refusal>
     requires { block_count (length (stored pins.now).numbers) (length macros.now) ≤ file_blocks }
     ensures answer { told_bytes result ≡ fitted (length (file_bytes w pins.now macros.now))
         (length bytes.old) }
@@ -42,40 +39,40 @@ fn write_checked(w: Weights, pins: &[i32], macros: &[i32], bytes: &mut [u8]) -> 
 {
     let n = encoded::file_length(pins, macros);
     if bytes.len() < n {
-        return Written::Refused(Refusal::Space);
+        return Err(Refusal::Space);
     }
-    encoded::put_file(&mut *bytes, w, pins, macros);
-    Written::Bytes(n)
+    encoded::put_file(bytes, w, pins, macros);
+    Ok(n)
 }
 
 // Write a net file: 11 to 18, then 21 where the lent bytes are fewer than the file's.
-pub fn write(w: Weighing, pins: &[i32], macros: &[i32], bytes: &mut [u8]) -> Written
+#[tactic(auto, unfolding(net::specs::Answer::told_by, net::specs::Answer::number, lent::specs::Told::only_if, lent::specs::Over::after, crate::specs::Write::written_within))]
+pub fn write(w: Weighing, pins: &[i32], macros: &[i32], bytes: &mut [u8]) -> Result<usize, Refusal>
     ensures answer { told_bytes result ≡ written w pins.now macros.now (length bytes.old) }
     ensures lent { bytes.new
         ≡ after (written w pins.now macros.now (length bytes.old))
         (file_bytes (weights_of w) pins.now macros.now) bytes.old }
 {
-    let answer = checks::check(w, pins, macros);
-    match answer {
-        Checked::Allowed(net) => write_checked(net.weights, pins, macros, &mut *bytes),
-        Checked::Refused(refusal) => Written::Refused(refusal),
-    }
+    let net = checks::check(w, pins, macros)?;
+    write_checked(net.weights, pins, macros, bytes)
 }
 
 // The layout of a file against the weights and lists that it holds, and then the check of these.
-fn check_lists(bytes: &[u8], w: Weights, pins: &[i32], macros: &[i32]) -> Checked
+#[tactic(auto, unfolding(net::specs::Answer::told_by, net::specs::Answer::number, crate::specs::Read::laid_out_within))]
+fn check_lists(bytes: &[u8], w: Weights, pins: &[i32], macros: &[i32]) -> Result<Net, Refusal>
     requires { block_count (length (stored pins.now).numbers) (length macros.now) ≤ file_blocks }
     ensures { told result ≡ laid_out bytes.now w pins.now macros.now }
 {
     if encoded::is_file_of(bytes, w, pins, macros) {
-        return checks::check(net::handed(w), pins, macros);
+        checks::check(Weighing::from(w), pins, macros)
+    } else {
+        Err(Refusal::Layout)
     }
-    Checked::Refused(Refusal::Layout)
 }
 
 // The check of a file whose head is right: of its layout, and then of its weights and lists. Nothing is lent for the lists yet, so they go
 // into tables that no list of a file is too long for.
-fn check_file(bytes: &[u8]) -> Checked
+fn check_file(bytes: &[u8]) -> Result<Net, Refusal>
     requires { (Sized bytes.now (pin_length bytes.now) (macro_length bytes.now)) × (weights_miswritten bytes.now ≡ false) }
     ensures { told result ≡ answer_in bytes.now }
 {
@@ -89,7 +86,8 @@ fn check_file(bytes: &[u8]) -> Checked
 }
 
 // Read a file whose head is right, into room for the largest net.
-fn read_counted(bytes: &[u8], pins: &mut [i32], macros: &mut [i32]) -> Checked
+#[tactic(auto, unfolding(net::specs::Answer::told_by, net::specs::Answer::number, lent::specs::Over::after))]
+fn read_counted(bytes: &[u8], pins: &mut [i32], macros: &mut [i32]) -> Result<Net, Refusal>
     requires { ((Sized bytes.now (pin_length bytes.now) (macro_length bytes.now)) × (weights_miswritten bytes.now ≡ false))
         × (room_short (length pins.old) (length macros.old) ≡ false) }
     ensures answer { told result ≡ answer_in bytes.now }
@@ -98,17 +96,13 @@ fn read_counted(bytes: &[u8], pins: &mut [i32], macros: &mut [i32]) -> Checked
     ensures macros { macros.new
         ≡ after (answer_in bytes.now) (macros_in bytes.now) macros.old }
 {
-    let answer = check_file(bytes);
-    match answer {
-        Checked::Allowed(_) => {
-            decoded::take_lists(bytes, &mut *pins, &mut *macros);
-            answer
-        }
-        Checked::Refused(_) => answer,
-    }
+    let net = check_file(bytes)?;
+    decoded::take_lists(bytes, pins, macros);
+    Ok(net)
 }
 
 // Fewer numbers lent than the largest net has.
+#[tactic(auto, unfolding(crate::specs::Read::room_short_within))]
 fn room_short(pins: &[i32], macros: &[i32]) -> bool
     ensures { result ≡ room_short (length pins.now) (length macros.now) }
 {
@@ -117,7 +111,8 @@ fn room_short(pins: &[i32], macros: &[i32]) -> bool
 
 // Read a net file: 21 where less than the largest net is lent, 1 to 3 for the file, then 11 to 17 for its lists. No file is refused by 18:
 // weights that would be are 3.
-pub fn read(bytes: &[u8], pins: &mut [i32], macros: &mut [i32]) -> Checked
+#[tactic(auto, unfolding(net::specs::Answer::told_by, net::specs::Answer::number, lent::specs::Over::after, crate::specs::Read::read_file_within))]
+pub fn read(bytes: &[u8], pins: &mut [i32], macros: &mut [i32]) -> Result<Net, Refusal>
     ensures answer { told result ≡ read_file bytes.now (length pins.old) (length macros.old) }
     ensures pins { pins.new
         ≡ after (read_file bytes.now (length pins.old) (length macros.old))
@@ -126,17 +121,17 @@ pub fn read(bytes: &[u8], pins: &mut [i32], macros: &mut [i32]) -> Checked
         ≡ after (read_file bytes.now (length pins.old) (length macros.old))
         (macros_in bytes.now) macros.old }
 {
-    if room_short(&*pins, &*macros) {
-        return Checked::Refused(Refusal::Space);
+    if room_short(pins, macros) {
+        return Err(Refusal::Space);
     }
     if decoded::blocks_miscounted(bytes) {
-        return Checked::Refused(Refusal::Blocks);
+        return Err(Refusal::Blocks);
     }
     if decoded::any_wrong_sums(bytes) {
-        return Checked::Refused(Refusal::Sums);
+        return Err(Refusal::Sums);
     }
     if decoded::head_wrong(bytes) {
-        return Checked::Refused(Refusal::Layout);
+        return Err(Refusal::Layout);
     }
-    read_counted(bytes, &mut *pins, &mut *macros)
+    read_counted(bytes, pins, macros)
 }

@@ -8,7 +8,7 @@ use native.Mathlib.Decide.{ℕ_discrete}
 use native.Mathlib.Omega.{arith}
 use borrow.Author.Tests.{le-leb, lt-leb, leb-true, ne_eqb, ltb-true, ltb-false}
 use lib.Dec.{leb, ltb}
-use lib.ListN.{length, get_or, set, drop, replicate, length-set, length-drop, length-replicate, get_or-replicate}
+use lib.ListN.{length, set, drop, replicate, length-set, length-drop, length-replicate, get_or-replicate}
 use lib.ListN.{get_or-eq_default}
 use lib.Seq.{get_or-drop, get_or-take, get_or-set_same, get_or-set_other, ext_get_or, length-take-le}
 use Rattle.lists.specs.Member.{◌∈◌, here, there}
@@ -17,7 +17,7 @@ use Rattle.lists.proofs.TestLaws.{by, and_left, and_right, and_both}
 use Rattle.lists.proofs.ThoseLaws.{of-those}
 use Rattle.lines.specs.Bounds.{crossing_bound, unreached}
 use Rattle.grid.specs.Rows.{at, Held, Quiet}
-use Rattle.grid.specs.Tables.{Row, Starts}
+use Rattle.grid.specs.Tables.{Row}
 use Rattle.grid.proofs.PassLaws.{held-row}
 use Rattle.parts.specs.Bounds.{mask_bound, work_bound}
 use Rattle.parts.specs.Numbers.{part_of}
@@ -76,6 +76,13 @@ lone-four s e = rw e refl
 pub lone-none : (s : ℕ) → (s ≡ 1 → ⊥) → (s ≡ 2 → ⊥) → (s ≡ 4 → ⊥) → (s ≡ 8 → ⊥) → 0 ≡ lone_pin s
 unfolding lone_pin
 lone-none s a b c d = rw (lone_pin, ne_eqb s 1 a, ne_eqb s 2 b, ne_eqb s 4 c, ne_eqb s 8 d) refl
+
+-- a set with no lone pin has two pins or more
+pub lone-more : (s : ℕ) → 1 ≤ s → lone_pin s ≡ 0 → 2 ≤ s
+unfolding lone_pin
+lone-more zero h e = absurd (let z : ⊥ = omega (arith, h) in z)
+lone-more (suc zero) h e = absurd (let z : ⊥ = omega (arith, e) in z)
+lone-more (suc (suc n)) h e = omega arith
 
 -- Rows
 
@@ -188,9 +195,6 @@ module _ (m : ℕ) (value : ℕ → ℕ → ℕ) (s p : ℕ) (t : List ℕ) wher
   pub tried-none : Row t → part_of m p s ≡ false → Tried m value s p t t
   tried-none r e = record { row = r; each = λ v h. sym (try-none m value s v p (at t v) e) }
 
-  pub trying-none : Row t → Trying m value s p t 0 t
-  trying-none r = record { row = r; each = λ x h. let z : ⊥ = omega (arith, h) in absurd z; rest = λ x h. refl }
-
   pub trying-more : (v sum n : ℕ) (u : List ℕ) → v < crossing_bound → part_of m p s ≡ true → sum ≡ value p v + value (s - p) v →
       n ≡ min sum (at u v) → Trying m value s p t v u → Trying m value s p t (v + 1) (set u v n)
   trying-more v sum n u h e f k b = record {
@@ -214,9 +218,6 @@ module _ (m : ℕ) (value : ℕ → ℕ → ℕ) (s p : ℕ) (t : List ℕ) wher
       each : (x : ℕ) → x < v + 1 → Dec (x ≡ v) → at (set u v n) x ≡ trying m value s x p (at t x)
       each x i (yes z) = subst (λ (y : ℕ). at (set u v n) y ≡ trying m value s y p (at t y)) (sym z) here-tried
       each x i (no z) = get_or-set_other u v x n 0 z ∙ b.each x (omega (arith, i, z))
-
-  pub trying-end : (v : ℕ) (u : List ℕ) → crossing_bound ≤ v → Trying m value s p t v u → Tried m value s p t u
-  trying-end v u h b = record { row = b.row; each = λ x i. b.each x (omega (arith, i, h)) }
 
 -- The start row, part by part
 
@@ -259,75 +260,6 @@ module _ (m : ℕ) (work : List ℕ) (s : ℕ) where
     lone = λ o. let y : ⊥ = omega (arith, z, o) in absurd y;
     parts = λ o v i. b.each v i ∙ sofar-end m (value_at work) s v p h k;
   }
-
-  pub begin-lone : (numbers : List ℕ) (i : ℕ) (t : List ℕ) → i ≡ lone_pin s → 0 < i → Starts (get_or numbers i 0) t → Begun m numbers work s t
-  begin-lone numbers i t e h r = record {
-    row = r.row;
-    lone = λ k. subst (λ (z : ℕ). Starts (get_or numbers z 0) t) e r;
-    parts = λ z. let y : ⊥ = omega (arith, z, e, h) in absurd y;
-  }
-
--- A row put into the work, number by number
-
-pub record Putting (s : ℕ) (row w : List ℕ) (v : ℕ) (u : List ℕ) : Type 0 where
-  pub size : length u ≡ length w
-  pub here : (i : ℕ) → i < v → value_at u s i ≡ at row i
-  pub below : (i : ℕ) → i < s * crossing_bound → get_or u i 0 ≡ get_or w i 0
-  pub above : (i : ℕ) → s * crossing_bound + v ≤ i → get_or u i 0 ≡ get_or w i 0
-
-module _ (s : ℕ) (row w : List ℕ) where
-  pub put-none : Putting s row w 0 w
-  put-none = record { size = refl; here = λ i h. let z : ⊥ = omega (arith, h) in absurd z; below = λ i h. refl; above = λ i h. refl }
-
-  pub put-more : (v x : ℕ) (u : List ℕ) → x ≡ at row v → s * crossing_bound + v < length u → Putting s row w v u →
-      Putting s row w (v + 1) (set u (s * crossing_bound + v) x)
-  put-more v x u e h p = record {
-    size = length-set u (s * crossing_bound + v) x ∙ p.size;
-    here = λ i k. at_here i k (ℕ_discrete i v);
-    below = λ i k. get_or-set_other u (s * crossing_bound + v) i x 0 (λ z. let y : ⊥ = omega (arith, z, k) in y) ∙ p.below i k;
-    above = λ i k. get_or-set_other u (s * crossing_bound + v) i x 0 (λ z. let y : ⊥ = omega (arith, z, k) in y) ∙ p.above i (omega (
-      arith,
-      k,
-    ));
-  }
-    where
-      at_here : (i : ℕ) → i < v + 1 → Dec (i ≡ v) → value_at (set u (s * crossing_bound + v) x) s i ≡ at row i
-      at_here i k (yes z) =
-          subst (λ (n : ℕ). value_at (set u (s * crossing_bound + v) x) s n ≡ at row n) (sym z)
-          (get_or-set_same u (s * crossing_bound + v) x 0 h ∙ e)
-      at_here i k (no n) =
-          get_or-set_other u (s * crossing_bound + v) (s * crossing_bound + i) x 0 (λ z. n (let y : i ≡ v = omega (arith, z) in y))
-          ∙ p.here i (omega (arith, k, n))
-
-  pub put-end : (v : ℕ) (u : List ℕ) → crossing_bound ≤ v → v ≤ crossing_bound → Putting s row w v u → RowPut s row w u
-  put-end v u h k p = record {
-    size = p.size;
-    here = λ i z. p.here i (omega (arith, z, h));
-    below = p.below;
-    above = λ i z. p.above i (omega (arith, z, k));
-  }
-
--- A row taken out, number by number
-
-pub record Taking (work : List ℕ) (s v : ℕ) (t : List ℕ) : Type 0 where
-  pub size : length t ≡ crossing_bound
-  pub each : (u : ℕ) → u < v → at t u ≡ value_at work s u
-
-module _ (work : List ℕ) (s : ℕ) where
-  pub take_none : (t : List ℕ) → length t ≡ crossing_bound → Taking work s 0 t
-  take_none t e = record { size = e; each = λ u h. let z : ⊥ = omega (arith, h) in absurd z }
-
-  pub take_more : (v x : ℕ) (t : List ℕ) → v < crossing_bound → x ≡ value_at work s v → Taking work s v t → Taking work s (v + 1) (set t v x)
-  take_more v x t h e b = record { size = length-set t v x ∙ b.size; each = λ u i. each u i (ℕ_discrete u v) }
-    where
-      each : (u : ℕ) → u < v + 1 → Dec (u ≡ v) → at (set t v x) u ≡ value_at work s u
-      each u i (yes k) =
-          subst (λ (z : ℕ). at (set t v x) z ≡ value_at work s z) (sym k) (get_or-set_same t v x 0 (omega (arith, h, b.size)) ∙ e)
-      each u i (no n) = get_or-set_other t v u x 0 n ∙ b.each u (omega (arith, i, n))
-
-  pub take-end : (v : ℕ) (t : List ℕ) → work_bound ≤ length work → s < mask_bound → crossing_bound ≤ v → Taking work s v t →
-      t ≡ row_of work s
-  take-end v t h k z b = row_is work s t h k b.size (λ u i. b.each u (omega (arith, i, z)))
 
 -- Rows one after the other
 

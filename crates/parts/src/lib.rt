@@ -4,7 +4,7 @@
 // pins of the set.
 #![tactic(auto)]
 
-ghost use Rattle.std.specs.Prelude.{◌≡◌, ◌+◌, ◌≤◌, ◌<◌, min, length, replicate};
+ghost use Rattle.std.specs.Prelude.{◌≡◌, ◌+◌, ◌≤◌, ◌<◌, length, replicate, MatchOption};
 ghost use Rattle.lines.specs.Bounds.{crossing_bound, unreached};
 ghost use Rattle.grid.specs.Rows.{Below};
 ghost use Rattle.grid.specs.Tables.{Row, Fits, Near};
@@ -16,41 +16,34 @@ use lines::Grid;
 
 // Sets as numbers
 
-// Each of the first m bits of p is one of s.
+// Each of the first m bits of p is one of s. Bit by bit, since `p & !s` would ask the others too.
 pub fn is_part(m: usize, p: usize, s: usize) -> bool
     ensures { result ≡ part_of m p s }
 {
-    let mut i = m;
     let mut a = p;
     let mut b = s;
-    while 0 < i {
+    for _ in 0..m {
         if b % 2 < a % 2 {
             return false;
         }
-        a = a / 2;
-        b = b / 2;
-        i -= 1;
+        a /= 2;
+        b /= 2;
     }
     true
 }
 
-// The number of the one pin of a set, 0 where it has more pins.
-fn lone_pin(s: usize) -> usize
-    ensures { (result ≡ lone_pin s) × (result < best_pins) }
+// The number of the one pin of a set, unless it has more pins.
+#[tactic(auto, unfolding(crate::specs::Tables::lone_pin))]
+fn lone_pin(s: usize) -> Option<usize>
+    ensures { MatchOption result (lone_pin s ≡ 0) (λ i. (i ≡ lone_pin s) × ((1 ≤ i) × (i < best_pins))) }
 {
-    if s == 1 {
-        return 1;
+    match s {
+        1 => Some(1),
+        2 => Some(2),
+        4 => Some(3),
+        8 => Some(4),
+        _ => None,
     }
-    if s == 2 {
-        return 2;
-    }
-    if s == 4 {
-        return 3;
-    }
-    if s == 8 {
-        return 4;
-    }
-    0
 }
 
 // The start of a row
@@ -64,28 +57,16 @@ pub fn sum_at(work: &[u32], p: usize, q: usize, v: usize) -> u32
     work[p * Grid::CROSSINGS + v] + work[q * Grid::CROSSINGS + v]
 }
 
-fn lesser(x: u32, y: u32) -> u32
-    ensures { result ≡ min x y }
-{
-    if x < y {
-        return x;
-    }
-    y
-}
-
 // The numbers of a row lowered to what the part p of s costs with the rest of s; as they were where p is no part.
 fn try_part(work: &[u32], m: usize, s: usize, p: usize, row: &mut [u32; Grid::CROSSINGS])
     requires rows_to { (RowsTo s work.now) × (s < mask_bound) }
     requires le_p { ((1 ≤ p) × (p < s)) × (Row row.old) }
     ensures { Tried m (value_at work.now) s p row.old row.new }
 {
-    if !is_part(m, p, s) {
-        return;
-    }
-    let mut v = 0;
-    while v < Grid::CROSSINGS {
-        row[v] = lesser(sum_at(work, p, s - p, v), row[v]);
-        v += 1;
+    if is_part(m, p, s) {
+        for v in 0..Grid::CROSSINGS {
+            row[v] = sum_at(work, p, s - p, v).min(row[v]);
+        }
     }
 }
 
@@ -102,15 +83,13 @@ fn begin(
     requires below { (Below crossing_bound numbers.now) × (row.old ≡ replicate crossing_bound unreached) }
     ensures { Begun m numbers.now work.now s row.new }
 {
-    let i = lone_pin(s);
-    if 0 < i {
-        grid::start(&mut *row, numbers[i]);
-        return;
-    }
-    let mut p = 1;
-    while p + p <= s {
-        try_part(work, m, s, p, &mut *row);
-        p += 1;
+    match lone_pin(s) {
+        Some(i) => grid::start(row, numbers[i]),
+        None => {
+            for p in 1..s / 2 + 1 {
+                try_part(work, m, s, p, row);
+            }
+        }
     }
 }
 
@@ -121,11 +100,8 @@ fn put_row(row: &[u32; Grid::CROSSINGS], s: usize, work: &mut [u32])
     requires { (work_bound ≤ length work.old) × (s < mask_bound) }
     ensures { RowPut s row.now work.old work.new }
 {
-    let mut v = 0;
-    while v < Grid::CROSSINGS {
-        work[s * Grid::CROSSINGS + v] = row[v];
-        v += 1;
-    }
+    let from = s * Grid::CROSSINGS;
+    work[from..from + Grid::CROSSINGS].copy_from_slice(row);
 }
 
 // The row of set s out of the work.
@@ -134,11 +110,8 @@ pub fn get_row(work: &[u32], s: usize, row: &mut [u32; Grid::CROSSINGS])
     requires row_len { length row.old ≡ crossing_bound }
     ensures { row.new ≡ row_of work.now s }
 {
-    let mut v = 0;
-    while v < Grid::CROSSINGS {
-        row[v] = work[s * Grid::CROSSINGS + v];
-        v += 1;
-    }
+    let from = s * Grid::CROSSINGS;
+    row.copy_from_slice(&work[from..from + Grid::CROSSINGS]);
 }
 
 // The row of set s settled from its start, into the work.
@@ -155,9 +128,9 @@ fn fill_row(
     ensures { RowFilled (Near costs.now e) m numbers.now s work.old work.new }
 {
     let mut row = [Grid::UNREACHED; Grid::CROSSINGS];
-    begin(&*work, numbers, m, s, &mut row);
+    begin(work, numbers, m, s, &mut row);
     grid::settle(costs, e, &mut row);
-    put_row(&row, s, &mut *work);
+    put_row(&row, s, work);
 }
 
 // The rows of all sets below n.
@@ -173,9 +146,7 @@ pub fn fill(
     requires work_bound_in_bounds { (work_bound ≤ length work.old) × ((1 ≤ n) × (n ≤ mask_bound)) }
     ensures { FilledTo (Near costs.now e) m numbers.now n work.old work.new }
 {
-    let mut s = 1;
-    while s < n {
-        fill_row(costs, e, numbers, m, s, &mut *work);
-        s += 1;
+    for s in 1..n {
+        fill_row(costs, e, numbers, m, s, work);
     }
 }

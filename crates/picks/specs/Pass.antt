@@ -1,5 +1,5 @@
 -- One pass over the vertices for two picks, as the code makes it: vertices by their numbers, and the best so far with its cost.
-use Rattle.std.specs.Prelude.{◌≡◌, Bool, true, false, cond, not, ◌&&◌, ◌||◌, List, ℕ, ◌/◌, ltb, leb, eqb, ℤ, length}
+use Rattle.std.specs.Prelude.{◌≡◌, Bool, true, cond, not, ◌&&◌, ◌||◌, List, ℕ, ◌/◌, ltb, leb, eqb, ℤ, length}
 use Rattle.std.specs.Int.Signed.{lt_z}
 use Rattle.signed.specs.Sides.{Le}
 use Rattle.plane.specs.declared.Place.{Place}
@@ -10,15 +10,14 @@ use Rattle.plane.specs.Cost.{cost}
 use Rattle.plane.specs.Macro.{clear}
 use Rattle.plane.specs.Flat.{place_at}
 use Rattle.picks.specs.declared.Quadrant.{Quadrant}
-use Rattle.picks.specs.declared.Picked.{Picked}
-use Rattle.picks.specs.declared.Picked.TheVariants.{At, Nothing}
+use Rattle.std.specs.Prelude.{Option, Some, None}
 use Rattle.picks.specs.declared.Near.{Near}
 use Rattle.picks.specs.declared.Standing.{Standing}
 use Rattle.picks.specs.Pick.{within}
 
 -- the i-th of the vertices in a flat list, or none where there is no such vertex
-unfoldable pub vertex_picked : List ℤ → ℕ → Picked
-vertex_picked s i = cond (ltb i (length s / 2)) (At (place_at s i)) Nothing
+unfoldable pub vertex_picked : List ℤ → ℕ → Option Place
+vertex_picked s i = cond (ltb i (length s / 2)) (Some (place_at s i)) None
 
 -- G4's order, by cost and then by place: in order of places a smaller one has the smaller number
 unfoldable pub leads : Near → ℕ → ℕ → Bool

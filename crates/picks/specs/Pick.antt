@@ -8,8 +8,7 @@ use Rattle.plane.specs.Cost.{cost}
 use Rattle.plane.specs.Macro.{clear}
 use Rattle.picks.specs.declared.Quadrant.{Quadrant}
 use Rattle.picks.specs.declared.Quadrant.TheVariants.{First, Second, Third, Fourth}
-use Rattle.picks.specs.declared.Picked.{Picked}
-use Rattle.picks.specs.declared.Picked.TheVariants.{At, Nothing}
+use Rattle.std.specs.Prelude.{Option, Some, None}
 
 -- G2: the four quadrants of u, each open at one of its sides and closed at the other
 unfoldable pub within : Quadrant → Place → Place → Bool
@@ -19,19 +18,19 @@ within Third u v = lt_z v.x u.x && le_z v.y u.y
 within Fourth u v = le_z u.x v.x && lt_z v.y u.y
 
 -- v is nearer to u, by cost, than what was picked so far; anything is nearer than nothing
-unfoldable pub nearer : Weights → Place → Place → Picked → Bool
-nearer w u v Nothing = true
-nearer w u v (At p) = ltb (cost w u v) (cost w u p)
+unfoldable pub nearer : Weights → Place → Place → Option Place → Bool
+nearer w u v None = true
+nearer w u v (Some p) = ltb (cost w u v) (cost w u p)
 
 -- the pick so far with one vertex more, which takes its place where it is in the quadrant, nearer, and clear
-unfoldable pub better : Weights → List Macro → Quadrant → Place → Picked → Place → Picked
-better w ms q u best v = cond (within q u v && (nearer w u v best && clear u v ms)) (At v) best
+unfoldable pub better : Weights → List Macro → Quadrant → Place → Option Place → Place → Option Place
+better w ms q u best v = cond (within q u v && (nearer w u v best && clear u v ms)) (Some v) best
 
-unfoldable pub pick_from : Weights → List Macro → Quadrant → Place → Picked → List Place → Picked
+unfoldable pub pick_from : Weights → List Macro → Quadrant → Place → Option Place → List Place → Option Place
 pick_from w ms q u best [] = best
 pick_from w ms q u best (v ∷ vs) = pick_from w ms q u (better w ms q u best v) vs
 
 -- G4: in a quadrant u picks the nearest vertex that is clear of it, of several the smallest, or none. The vertices come in order, so the
 -- first of the nearest stays.
-unfoldable pub pick : Weights → List Macro → Quadrant → Place → List Place → Picked
-pick w ms q u vs = pick_from w ms q u Nothing vs
+unfoldable pub pick : Weights → List Macro → Quadrant → Place → List Place → Option Place
+pick w ms q u vs = pick_from w ms q u None vs

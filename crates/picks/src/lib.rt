@@ -12,19 +12,12 @@ ghost use Rattle.picks.specs.Pass.{leads, best_of, is_next, if_clear, is_past, O
 use plane::{Place, Weights};
 
 // One of the four quadrants of a vertex.
-#[derive(Clone, Copy)]
+#[derive(Clone, Copy, PartialEq, Eq)]
 pub enum Quadrant {
     First,
     Second,
     Third,
     Fourth,
-}
-
-// What a vertex picks in a quadrant.
-#[derive(Clone, Copy)]
-pub enum Picked {
-    At(Place),
-    Nothing,
 }
 
 // A vertex by its number, and what metal to it costs. For none, the number of all and a cost above every other.
@@ -34,7 +27,7 @@ pub struct Near {
     pub far: u64,
 }
 
-// The best so far of a pass, and the macro that blocked last.
+// The best so far of a pass, and the macro to ask first, which is the one that blocked last.
 #[derive(Clone, Copy)]
 pub struct Standing {
     pub at: usize,
@@ -49,6 +42,7 @@ pub struct TwoPicks {
     pub right: u16,
 }
 
+#[tactic(auto, unfolding(crate::specs::Pick::within))]
 fn is_within(q: Quadrant, u: Place, v: Place) -> bool
     ensures { result ≡ within q u v }
 {
@@ -61,6 +55,7 @@ fn is_within(q: Quadrant, u: Place, v: Place) -> bool
 }
 
 // The best so far comes no later, by cost and then by number, than what is at that cost and has that number.
+#[tactic(auto, unfolding(crate::specs::Pass::leads))]
 fn leads(best: Near, far: u64, i: usize) -> bool
     ensures { result ≡ leads best far i }
 {
@@ -68,35 +63,29 @@ fn leads(best: Near, far: u64, i: usize) -> bool
 }
 
 // The i-th vertex, v, is in the quadrant and comes before the best so far.
+#[tactic(auto, unfolding(crate::specs::Pass::is_next))]
 fn is_next(w: Weights, q: Quadrant, u: Place, held: Standing, i: usize, v: Place) -> bool
     ensures { result ≡ is_next w q u (best_of held) i v }
 {
-    if !is_within(q, u, v) {
-        return false;
-    }
     let best = Near {
         at: held.at,
         far: held.far,
     };
-    !leads(best, plane::cost(w, u, v), i)
+    is_within(q, u, v) && !leads(best, plane::cost(w, u, v), i)
 }
 
 // The i-th vertex, v, where it is clear, else the best so far. This is asked last: it looks at every macro.
+#[tactic(auto, unfolding(crate::specs::Pass::if_clear))]
 fn look_at(w: Weights, macros: &[i32], u: Place, held: Standing, i: usize, v: Place) -> Standing
     ensures { best_of result ≡ if_clear w (macros_of macros.now) u (best_of held) i v }
 {
-    let sight = clear::look(u, v, macros, held.by);
-    if !sight.free {
-        return Standing {
-            at: held.at,
-            far: held.far,
-            by: sight.by,
-        };
-    }
-    Standing {
-        at: i,
-        far: plane::cost(w, u, v),
-        by: sight.by,
+    match clear::look(u, v, macros, held.by) {
+        Some(by) => Standing { by, ..held },
+        None => Standing {
+            at: i,
+            far: plane::cost(w, u, v),
+            ..held
+        },
     }
 }
 
@@ -104,31 +93,27 @@ fn look_at(w: Weights, macros: &[i32], u: Place, held: Standing, i: usize, v: Pl
 fn outward(k: usize, t: usize) -> usize
     ensures { (t < k → result + t + 1 ≡ k) × (k ≤ t → result ≡ t) }
 {
-    if t < k {
-        return k - t - 1;
-    }
-    t
+    if t < k { k - t - 1 } else { t }
 }
 
 // The turn after the last one on the same side.
 fn side_end(k: usize, t: usize, n: usize) -> usize
     ensures { (t < k → result ≡ k) × (k ≤ t → result ≡ n) }
 {
-    if t < k {
-        return k;
-    }
-    n
+    if t < k { k } else { n }
 }
 
 // Whatever stands as far from u across as v, or farther, is beyond the best on that side.
+#[tactic(auto, unfolding(crate::specs::Pass::is_past))]
 fn is_past(w: Weights, u: Place, v: Place, left: u64, right: u64) -> bool
     ensures { result ≡ is_past w u v left right }
 {
     let across = plane::cost(w, u, Place { x: v.x, y: u.y });
     if v.x < u.x {
-        return left < across;
+        left < across
+    } else {
+        right < across
     }
-    right < across
 }
 
 // A number of a vertex, or that of all, as it stands in a table.
@@ -164,12 +149,9 @@ pub fn picks(
         far: u64::MAX,
         by: 0,
     };
-    let mut right = Standing {
-        at: n,
-        far: u64::MAX,
-        by: 0,
-    };
+    let mut right = left;
     let mut t = 0;
+    // Where a side ends, the turn jumps to the next one.
     while t < n {
         let i = outward(k, t);
         let v = plane::place_at(vertices, i);

@@ -1,46 +1,25 @@
--- Gaps and distance: absolute values worked out across zero, and how far numbers lie apart (the same both ways, 0 exactly at equal
--- numbers, additive through a number between, the triangle), from which cost has its laws. Of distance, which is plain length, only
--- what metal needs.
+-- Gaps and distance: the absolute value of a number that is not below zero, and how far numbers lie apart (the same both ways, 0 exactly
+-- at equal numbers, additive through a number between, the triangle), from which cost has its laws. Of distance, which is plain length,
+-- only what metal needs.
 -- Assumes nothing.
 use mathlib.Core.Path.{◌≡◌, ap₂}
-use mathlib.Core.Bool.{true, false}
+use mathlib.Core.Bool.{false}
 use Prim.Native.Nat.{ℕ, ◌+◌, ◌-◌, ◌^◌, ◌≤◌, ◌<◌, min, max}
 use lib.IntN.{ℤ, pos, ◌-ℤ◌, nat_abs}
 use lib.Signed.{lt_z, le_z}
-use mir.Syntax.{w32, w64}
+use mir.Syntax.{w32}
 use mir.Val.{SFits}
 use Rattle.lists.proofs.TestLaws.{by}
 use Rattle.signed.specs.Sides.{up, down, Le}
-use Rattle.signed.proofs.SideLaws.{one_side, of-sfits, to-sfits, sub-sides, abs-sides, up_pos, down_pos, eq_of, signed}
+use Rattle.signed.proofs.SideLaws.{one_side, of-sfits, sub-sides, abs-sides, up_pos, down_pos, eq_of, signed}
 use Rattle.signed.proofs.OrderLaws.{min-sides, max-sides}
 use Rattle.plane.specs.declared.Place.{Place}
 use Rattle.plane.specs.Box.{Between}
 use Rattle.plane.specs.Distance.{apart, distance}
 
--- the absolute value of a number below zero and of one that is not
-pub turned : (d : ℤ) → lt_z d (pos 0) ≡ true → pos 0 -ℤ d ≡ pos (nat_abs d)
-turned d e =
-    eq_of _ _ (omega (
-      signed,
-      sub-sides (pos 0) d,
-      one_side d,
-      one_side (pos 0 -ℤ d),
-      abs-sides d,
-      up_pos (nat_abs d),
-      down_pos
-          (nat_abs d),
-      up_pos 0,
-      down_pos 0,
-    ))
-
+-- the absolute value of a number that is not below zero
 pub unturned : (d : ℤ) → lt_z d (pos 0) ≡ false → d ≡ pos (nat_abs d)
 unturned d e = eq_of _ _ (omega (signed, one_side d, abs-sides d, up_pos (nat_abs d), down_pos (nat_abs d), up_pos 0, down_pos 0))
-
-pub turned-fits : (d : ℤ) → SFits w64 d → down d < 2 ^ 63 → SFits w64 (pos 0 -ℤ d)
-turned-fits d f h =
-    to-sfits w64 (pos 0 -ℤ d)
-    (omega (signed, h, sub-sides (pos 0) d, one_side (pos 0 -ℤ d), of-sfits w64 d f, up_pos 0, down_pos 0))
-    (omega (signed, h, sub-sides (pos 0) d, one_side (pos 0 -ℤ d), of-sfits w64 d f, up_pos 0, down_pos 0))
 
 -- what omega needs of `apart`
 pub apart-sides : (a b : ℤ) → apart a b ≡ max (up a + down b) (up b + down a) - min (up a + down b) (up b + down a)
@@ -49,9 +28,6 @@ apart-sides a b = omega (signed, sub-sides a b, abs-sides (a -ℤ b), one_side (
 
 pub apart_fits : (a b : ℤ) → SFits w32 a → SFits w32 b → apart a b < 2 ^ 32
 apart_fits a b f g = omega (signed, apart-sides a b, of-sfits w32 a f, of-sfits w32 b g)
-
-pub difference-fits : (a b : ℤ) → SFits w32 a → SFits w32 b → down (a -ℤ b) < 2 ^ 63
-difference-fits a b f g = omega (signed, sub-sides a b, one_side (a -ℤ b), of-sfits w32 a f, of-sfits w32 b g)
 
 -- the same both ways
 pub apart-comm : (a b : ℤ) → apart a b ≡ apart b a

@@ -8,7 +8,6 @@ use lib.IntN.{ℤ, pos}
 use lib.ListN.{length, drop}
 use Rattle.lists.proofs.EntryLaws.{twos-next, twos-end, length-twos, fours-next, fours-end, length-fours}
 use Rattle.plane.specs.declared.Place.{Place}
-use Rattle.plane.specs.declared.Macro.{Macro}
 use Rattle.plane.specs.Place.{place}
 use Rattle.plane.specs.Macro.{macro}
 use Rattle.plane.specs.Flat.{places_of, macros_of, place_at, macro_at, flat_places}

@@ -10,3 +10,4 @@ pub mod WorkedDistances
 pub mod PlaceOrder
 pub mod MeetLaws
 pub mod RankLaws
+pub mod MachineLaws

@@ -9,7 +9,7 @@ use lib.Dec.{ltb}
 use lib.IntN.{ℤ}
 use borrow.Author.Tests.{ltb-true, ltb-false}
 use Rattle.lists.specs.Turns.{seek}
-use Rattle.lists.proofs.TestLaws.{by, differ, contrapose}
+use Rattle.lists.proofs.TestLaws.{by, contrapose}
 use Rattle.plane.specs.declared.Place.{Place}
 use Rattle.plane.specs.Place.{before}
 use Rattle.plane.specs.Flat.{place_at}

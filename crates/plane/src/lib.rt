@@ -1,9 +1,10 @@
 // The plane: places, macros, and the cost of metal between two places.
 //
-// Coordinates are i32 and any value is taken; differences and sums of them are worked out in 64 bits, where none can overflow.
+// Coordinates are i32 and any value is taken: how far two lie apart has no sign, and is added and weighted in 64 bits, so that nothing
+// can overflow.
 #![tactic(auto)]
 
-ghost use Rattle.std.specs.Prelude.{◌≡◌, ◌+◌, ◌*◌, ◌≤◌, ◌^◌, ◌<◌, pos, ◌-ℤ◌, nat_abs, length};
+ghost use Rattle.std.specs.Prelude.{◌≡◌, ◌+◌, ◌*◌, ◌≤◌, ◌^◌, ◌<◌, length};
 ghost use Rattle.std.proofs.lemmas.List.Edits.{sets};
 ghost use Rattle.plane.specs.Place.{before, same_place};
 ghost use Rattle.plane.specs.Distance.{apart, distance};
@@ -12,17 +13,16 @@ ghost use Rattle.plane.specs.Middle.{middle, middle_place};
 ghost use Rattle.plane.specs.Flat.{place_at, place_numbers};
 ghost use Rattle.plane.specs.Rank.{InOrder, rank};
 ghost use Rattle.signed.specs.Order.{z_min, z_max};
-ghost use Rattle.signed.specs.Sides.{down};
 
-// A place of the plane.
-#[derive(Clone, Copy)]
+// A place of the plane. Places go by x, then by y.
+#[derive(Clone, Copy, PartialEq, Eq, PartialOrd, Ord)]
 pub struct Place {
     pub x: i32,
     pub y: i32,
 }
 
 // An upright rectangle.
-#[derive(Clone, Copy)]
+#[derive(Clone, Copy, PartialEq, Eq)]
 pub struct Macro {
     pub left: i32,
     pub bottom: i32,
@@ -31,43 +31,41 @@ pub struct Macro {
 }
 
 // What a unit of metal costs along each axis: a byte each, so that no cost of 32-bit places can overflow 64 bits.
-#[derive(Clone, Copy)]
+#[derive(Clone, Copy, PartialEq, Eq)]
 pub struct Weights {
     pub across: u8,
     pub along: u8,
 }
 
-// The smaller and the greater of two coordinates, for the sides of boxes and spans.
+impl Weights {
+    // With these what metal costs is its plain length.
+    pub const PLAIN: Weights = Weights {
+        across: 1,
+        along: 1,
+    };
+}
+
+// The smaller and the greater of two coordinates, for spans and the middle of three.
+#[tactic(auto, using(crate::proofs::MachineLaws::min_is))]
 pub fn smaller(a: i32, b: i32) -> i32
     ensures { result ≡ z_min a b }
 {
-    if a <= b { a } else { b }
+    a.min(b)
 }
 
+#[tactic(auto, using(crate::proofs::MachineLaws::max_is))]
 pub fn greater(a: i32, b: i32) -> i32
     ensures { result ≡ z_max a b }
 {
-    if a <= b { b } else { a }
-}
-
-fn difference(a: i32, b: i32) -> i64
-    ensures { result ≡ a -ℤ b }
-{
-    a as i64 - b as i64
-}
-
-fn absolute(d: i64) -> i64
-    requires { down d < 2 ^ 63 }
-    ensures { result ≡ pos (nat_abs d) }
-{
-    if d < 0 { -d } else { d }
+    a.max(b)
 }
 
 // How far a and b lie apart.
+#[tactic(auto, unfolding(crate::specs::Distance::apart))]
 pub fn gap(a: i32, b: i32) -> u64
     ensures { (result ≡ apart a b) × (result < 2 ^ 32) }
 {
-    absolute(difference(a, b)) as u64
+    u64::from(a.abs_diff(b))
 }
 
 // What a gap costs along an axis of this weight.
@@ -75,9 +73,10 @@ pub fn axis_cost(gap: u64, weight: u8) -> u64
     requires { gap < 2 ^ 32 }
     ensures { (result ≡ gap * weight) × (result < 2 ^ 40) }
 {
-    gap * weight as u64
+    gap * u64::from(weight)
 }
 
+#[tactic(auto, unfolding(crate::specs::Middle::middle))]
 fn median(a: i32, b: i32, c: i32) -> i32
     ensures { result ≡ middle a b c }
 {
@@ -85,25 +84,22 @@ fn median(a: i32, b: i32, c: i32) -> i32
 }
 
 // The order of places: by x, then by y.
+#[tactic(auto, unfolding(crate::specs::Place::before))]
 pub fn is_before(a: Place, b: Place) -> bool
     ensures { result ≡ before a b }
 {
-    if a.x < b.x {
-        return true;
-    }
-    if b.x < a.x {
-        return false;
-    }
-    a.y < b.y
+    a < b
 }
 
+#[tactic(auto, using(crate::proofs::MachineLaws::eq_is), unfolding(crate::specs::Place::same_place))]
 pub fn is_same_place(a: Place, b: Place) -> bool
     ensures { result ≡ same_place a b }
 {
-    a.x == b.x && a.y == b.y
+    a == b
 }
 
 // The plain length between two places.
+#[tactic(auto, unfolding(crate::specs::Distance::distance))]
 pub fn distance(a: Place, b: Place) -> u64
     ensures { result ≡ distance a b }
 {
@@ -111,6 +107,7 @@ pub fn distance(a: Place, b: Place) -> u64
 }
 
 // What metal between two places costs.
+#[tactic(auto, unfolding(crate::specs::Cost::cost))]
 pub fn cost(w: Weights, a: Place, b: Place) -> u64
     ensures { (result ≡ cost w a b) × (result < cost_limit) }
 {
@@ -118,6 +115,7 @@ pub fn cost(w: Weights, a: Place, b: Place) -> u64
 }
 
 // The place in the middle of three, axis by axis.
+#[tactic(auto, unfolding(crate::specs::Middle::middle_place))]
 pub fn middle_place(a: Place, b: Place, u: Place) -> Place
     ensures { result ≡ middle_place a b u }
 {
@@ -145,10 +143,8 @@ pub fn put_place(places: &mut [i32], i: usize, p: Place)
     ensures { places.new ≡ sets places.old (i * 2) (place_numbers p) }
 {
     let k = i * 2;
-    let x = p.x;
-    let y = p.y;
-    places[k] = x;
-    places[k + 1] = y;
+    places[k] = p.x;
+    places[k + 1] = p.y;
 }
 
 // How many of the first n places of a flat list, which are in order, come before p. They are halved, so that few are asked.

@@ -15,13 +15,6 @@ use net::Refusal;
 // A rate is for this many units of metal.
 const UNITS: u64 = 1000;
 
-// The answer of a price: the charge, in hundredths of the currency.
-#[derive(Clone, Copy)]
-pub enum Priced {
-    Charged(u64),
-    Refused(Refusal),
-}
-
 fn is_reaching(metal: u64, band: Band) -> bool
     ensures { result ≡ reaches metal band }
 {
@@ -49,19 +42,16 @@ fn charge(metal: u64, rate: u64) -> u64
     whole + 1
 }
 
-// The charge by the first band that reaches the metal, or 32.
-pub fn by_first(metal: u64, bands: &[u64]) -> Priced
+// The charge, in hundredths of the currency, by the first band that reaches the metal, or 32.
+pub fn by_first(metal: u64, bands: &[u64]) -> Result<u64, Refusal>
     requires { (metal ≤ metal_bound) × (any rate_above (bands_of bands.now) ≡ false) }
     ensures { told_price result ≡ by_first metal (bands_of bands.now) }
 {
-    let k = bands.len() / 2;
-    let mut i = 0;
-    while i < k {
+    for i in 0..bands.len() / 2 {
         let band = bands::band_at(bands, i);
         if is_reaching(metal, band) {
-            return Priced::Charged(charge(metal, band.rate));
+            return Ok(charge(metal, band.rate));
         }
-        i += 1;
     }
-    Priced::Refused(Refusal::Reach)
+    Err(Refusal::Reach)
 }

@@ -35,7 +35,7 @@ use Rattle.checks.proofs.GivenLaws.{given-allowed}
 use Rattle.checks.proofs.CheckOrder.{check-order, same-places}
 use Rattle.terminal.proofs.NumberLaws.{apart-once}
 use Rattle.floats.specs.declared.Technology.{Technology}
-use Rattle.floats.specs.declared.Delay.{Delay}
+use Rattle.floats.specs.Mark.{Delay}
 use Rattle.floats.specs.Mark.{marked, finites}
 use Rattle.delay.specs.Answer.{delay_of, marks_of, delayed, delay_answer}
 use Rattle.delay.proofs.LoadLaws.{loads-same}

@@ -71,7 +71,7 @@ use Rattle.grid.specs.Distance.{Square}
 use Rattle.grid.proofs.SquareLaws.{squares-same}
 use Rattle.answers.specs.Distances.{above_grid, distances_given, grid_distances}
 use Rattle.floats.specs.declared.Technology.{Technology}
-use Rattle.floats.specs.declared.Delay.{Delay}
+use Rattle.floats.specs.Mark.{Delay}
 use Rattle.delay.specs.Load.{load_of}
 use Rattle.floats.specs.Mark.{marked, finites}
 use Rattle.delay.specs.Answer.{delay_of, marks_of, delayed, delay_answer}

@@ -1,6 +1,6 @@
 -- The code's small steps are those of the definitions.
 -- Assumes nothing.
-use mathlib.Core.Path.{◌≡◌, refl, sym, ◌∙◌}
+use mathlib.Core.Path.{◌≡◌, refl, sym, ap, ◌∙◌}
 use mathlib.Core.Bool.{Bool, true, false, not, ◌&&◌, ◌||◌}
 use mathlib.Core.List.{List}
 use Prim.Native.Nat.{ℕ, zero, suc, ◌+◌, ◌-◌, ◌/◌, ◌≤◌, min, max}
@@ -31,18 +31,18 @@ pub own-not : (e : Seen) → (e.from.across ≡ e.to.across → ⊥) → (e.firs
 unfolding own_of
 own-not e k = rw (own_of, ne_eqb e.from.across e.to.across k) refl
 
-module _ (e : Seen) (n : ℕ) (c : Spot) (t : Bool) (d : ℕ) (p : t ≡ ahead_of e) (q : d ≡ long_of e) where
-  pub ends-first : (t && eqb d n) ≡ true → e.first ≡ true → (r : Bool) → r ≡ same_spot c e.to → r ≡ ends_at e n c
+-- the far end, by which end is on the bar
+module _ (e : Seen) (n : ℕ) (c : Spot) (t : Bool) (d : ℕ) (p : t ≡ ahead_of e) (q : d ≡ long_of e) (far : Spot) (r : Bool)
+    (s : r ≡ same_spot c far) where
+  pub ends-first : e.first ≡ true → far ≡ e.to → ((t && eqb d n) && r) ≡ ends_at e n c
   unfolding ends_at
-  ends-first h k r s = s ∙ sym (rw (ends_at, sym p, sym q, h, k) refl)
+  ends-first h k =
+      by (t && eqb d n) (λ g. rw (ends_at, ← p, ← q, g, h) (s ∙ ap (same_spot c) k)) (λ g. rw (ends_at, ← p, ← q, g) refl)
 
-  pub ends-second : (t && eqb d n) ≡ true → e.first ≡ false → (r : Bool) → r ≡ same_spot c e.from → r ≡ ends_at e n c
+  pub ends-second : e.first ≡ false → far ≡ e.from → ((t && eqb d n) && r) ≡ ends_at e n c
   unfolding ends_at
-  ends-second h k r s = s ∙ sym (rw (ends_at, sym p, sym q, h, k) refl)
-
-  pub ends-not : (t && eqb d n) ≡ false → false ≡ ends_at e n c
-  unfolding ends_at
-  ends-not h = sym (rw (ends_at, sym p, sym q, h) refl)
+  ends-second h k =
+      by (t && eqb d n) (λ g. rw (ends_at, ← p, ← q, g, h) (s ∙ ap (same_spot c) k)) (λ g. rw (ends_at, ← p, ← q, g) refl)
 
 -- past a macro
 module _ (b : Bar) (f : Face) (w : Way) where

@@ -2,15 +2,15 @@
 -- Assumes nothing.
 use mathlib.Core.Path.{◌≡◌, refl, sym, ap, ap₂, ◌∙◌}
 use mathlib.Core.Bool.{Bool, true, false, ◌&&◌}
-use Prim.Native.Nat.{ℕ, ◌+◌, ◌≤◌, min, max}
+use Prim.Native.Nat.{ℕ, min, max}
 use native.Mathlib.Omega.{arith}
 use lib.Dec.{eqb}
 use lib.IntN.{ℤ, pos, ◌-ℤ◌}
 use lib.Signed.{le_z}
-use Rattle.lists.proofs.TestLaws.{by, differ}
-use Rattle.signed.specs.Sides.{up, down, Le}
+use Rattle.lists.proofs.TestLaws.{by}
+use Rattle.signed.specs.Sides.{Le}
 use Rattle.signed.specs.Order.{z_eq, z_min, z_max}
-use Rattle.signed.proofs.SideLaws.{sub-sides, eq_of, up_pos, down_pos}
+use Rattle.signed.proofs.SideLaws.{sub-sides, eq_of}
 use Rattle.signed.proofs.OrderLaws.{min-sides, max-sides}
 use Rattle.plane.specs.declared.Place.{Place}
 use Rattle.plane.specs.Place.{same_place}

@@ -1,9 +1,9 @@
 -- What meets the box in a far end alone: one scan of the edges for a shortest one that ends there.
 -- Assumes nothing.
 use mathlib.Core.Path.{◌≡◌, refl, sym, ap, ap₂, ◌∙◌}
-use mathlib.Core.Bool.{Bool, true, false, not, ◌&&◌, ◌||◌}
+use mathlib.Core.Bool.{Bool, true, false, ◌&&◌, ◌||◌}
 use mathlib.Core.List.{List, [], ◌∷◌, ◌++◌, map}
-use Prim.Native.Nat.{ℕ, zero, suc, ◌+◌, ◌-◌, ◌<◌}
+use Prim.Native.Nat.{ℕ, zero, suc, ◌<◌}
 use native.Mathlib.Omega.{arith}
 use borrow.Author.Tests.{eqb-true}
 use lib.Dec.{eqb}
@@ -14,7 +14,7 @@ use Rattle.lists.proofs.TestLaws.{by, differ, and_left, and_right}
 use Rattle.plane.specs.declared.Place.{Place}
 use Rattle.plane.proofs.Fits.{PlaceFits}
 use Rattle.slide.specs.declared.Side.{Side}
-use Rattle.slide.specs.Side.{along, across, moved}
+use Rattle.slide.specs.Side.{moved}
 use Rattle.slide.specs.Bend.{Edge}
 use Rattle.slide.specs.Bar.{ahead, far, long, shortest, far_ends}
 use Rattle.slide.specs.Sweep.{only_in}

@@ -2,18 +2,14 @@
 -- asks: the least stop, and whether nothing bars the bar as far as its shortest edge.
 -- Assumes nothing.
 use mathlib.Core.Path.{◌≡◌, refl, sym, ap, ap₂, ◌∙◌}
-use mathlib.Core.Bool.{Bool, true, false, not, ◌&&◌, ◌||◌}
-use mathlib.Core.List.{List, [], ◌∷◌, ◌++◌, map}
-use Prim.Native.Nat.{ℕ, zero, suc, ◌+◌, ◌-◌, ◌≤◌, ◌<◌, min, max}
+use mathlib.Core.Bool.{Bool, true, false, ◌&&◌, ◌||◌}
+use Prim.Native.Nat.{ℕ, ◌+◌, ◌-◌, min, max}
 use native.Mathlib.Omega.{arith}
-use borrow.Author.Tests.{leb-true, leb-false, le-leb, lt-leb}
-use lib.Dec.{eqb, leb, ltb}
-use lib.IntN.{ℤ, pos, ◌+ℤ◌, ◌-ℤ◌}
-use lib.Signed.{lt_z, le_z}
-use Rattle.lists.specs.Any.{any}
+use borrow.Author.Tests.{leb-true, le-leb}
+use lib.Dec.{eqb, leb}
+use lib.Signed.{le_z}
 use Rattle.lists.proofs.TestLaws.{by, and_left, and_right, and_both}
-use Rattle.signed.specs.Sides.{up, down, Lt, Le}
-use Rattle.signed.specs.Order.{z_eq, z_min, z_max}
+use Rattle.signed.specs.Sides.{up, down, Le}
 use Rattle.signed.proofs.SideLaws.{one_side, z_le-true, le-z_le}
 use Rattle.plane.specs.declared.Place.{Place}
 use Rattle.plane.proofs.Fits.{PlaceFits}
@@ -25,7 +21,7 @@ use Rattle.slide.specs.Sweep.{boxes_meet}
 use Rattle.slide.specs.Stop.{beyond, low_along, high_along, low_across, high_across, edge_ahead}
 use Rattle.slide.proofs.AcrossLaws.{along-moved, across-moved}
 use Rattle.slide.proofs.LabelledBars.{agree}
-use Rattle.slide.proofs.TouchLaws.{Touch, touch, touched}
+use Rattle.slide.proofs.TouchLaws.{touch, touched}
 use Rattle.reach.specs.declared.Bar.{Bar}
 use Rattle.turned.specs.declared.Seen.{Seen}
 use Rattle.turned.specs.Turned.{raised, spot}

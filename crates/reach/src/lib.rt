@@ -46,18 +46,19 @@ fn is_own(e: Seen) -> bool
     ensures { result ≡ own_of e }
 {
     if e.from.across == e.to.across {
-        return e.first & e.second;
+        e.first & e.second
+    } else {
+        e.first | e.second
     }
-    e.first | e.second
 }
 
 // It stands ahead of the bar, or across it: a box that grows far enough meets it.
 fn is_in_front(bar: Bar, e: Seen) -> bool
     ensures { result ≡ front_of bar e }
 {
-    (turned::smaller(e.from.along, e.to.along) <= bar.last.along)
-        & ((bar.first.along <= turned::greater(e.from.along, e.to.along))
-            & (bar.first.across <= turned::greater(e.from.across, e.to.across)))
+    (e.from.along.min(e.to.along) <= bar.last.along)
+        & ((bar.first.along <= e.from.along.max(e.to.along))
+            & (bar.first.across <= e.from.across.max(e.to.across)))
 }
 
 // Where the box swept to the end of the shortest edge meets it: the box of these two spots.
@@ -65,11 +66,8 @@ fn low_corner(bar: Bar, e: Seen) -> Spot
     ensures { result ≡ low_of bar e }
 {
     Spot {
-        along: turned::greater(turned::smaller(e.from.along, e.to.along), bar.first.along),
-        across: turned::greater(
-            turned::smaller(e.from.across, e.to.across),
-            bar.first.across,
-        ),
+        along: e.from.along.min(e.to.along).max(bar.first.along),
+        across: e.from.across.min(e.to.across).max(bar.first.across),
     }
 }
 
@@ -77,8 +75,8 @@ fn high_corner(bar: Bar, e: Seen) -> Spot
     ensures { result ≡ high_of bar e }
 {
     Spot {
-        along: turned::smaller(turned::greater(e.from.along, e.to.along), bar.last.along),
-        across: turned::smaller(turned::greater(e.from.across, e.to.across), bar.top),
+        along: e.from.along.max(e.to.along).min(bar.last.along),
+        across: e.from.across.max(e.to.across).min(bar.top),
     }
 }
 
@@ -86,13 +84,8 @@ fn high_corner(bar: Bar, e: Seen) -> Spot
 fn ends_at(e: Seen, most: u64, c: Spot) -> bool
     ensures { result ≡ ends_at e most c }
 {
-    if turned::is_ahead(e) & (turned::long(e) == most) {
-        if e.first {
-            return turned::is_same(c, e.to);
-        }
-        return turned::is_same(c, e.from);
-    }
-    false
+    let far = if e.first { e.to } else { e.from };
+    turned::is_ahead(e) & (turned::long(e) == most) & (c == far)
 }
 
 fn is_far_end(
@@ -106,15 +99,13 @@ fn is_far_end(
     requires { (e ≤ straight_bound) × (Small keys.now) }
     ensures { result ≡ is_far (seen_by pts.now keys.now lab.now bar) e bar.most c }
 {
-    let side = bar.side;
-    let mut found = false;
-    let mut k = 0;
-    while k < e {
-        let t = turned::seen_edge(pts, keys, lab, side, bar.label, k);
-        found = found | ends_at(t, bar.most, c);
-        k += 1;
+    for k in 0..e {
+        let t = turned::seen_edge(pts, keys, lab, bar.side, bar.label, k);
+        if ends_at(t, bar.most, c) {
+            return true;
+        }
     }
-    found
+    false
 }
 
 // It meets the box in such a far end and nowhere else.
@@ -130,10 +121,7 @@ fn is_exempt(
     ensures { result ≡ exempt (seen_by pts.now keys.now lab.now bar) e bar t }
 {
     let c = low_corner(bar, t);
-    if turned::is_same(c, high_corner(bar, t)) {
-        return is_far_end(pts, keys, e, lab, bar, c);
-    }
-    false
+    c == high_corner(bar, t) && is_far_end(pts, keys, e, lab, bar, c)
 }
 
 // The way past an edge, or past a point as the edge of it and itself.
@@ -152,20 +140,17 @@ fn past(
     if is_own(t) | !is_in_front(bar, t) {
         return w;
     }
-    let d = turned::beyond(
-        bar.first.across,
-        turned::smaller(t.from.across, t.to.across),
-    );
-    let stop = turned::smaller(w.stop, d);
+    let d = t
+        .from
+        .across
+        .min(t.to.across)
+        .saturating_sub(bar.first.across);
+    let stop = w.stop.min(d);
     if w.free & (d <= bar.most) {
-        return Way {
-            stop: stop,
-            free: is_exempt(pts, keys, e, lab, bar, t),
-        };
-    }
-    Way {
-        stop: stop,
-        free: w.free,
+        let free = is_exempt(pts, keys, e, lab, bar, t);
+        Way { stop, free }
+    } else {
+        Way { stop, ..w }
     }
 }
 
@@ -190,16 +175,13 @@ fn past_points(
     ensures { Alike need w result (past_points (seen_by pts.now keys.now lab.now bar) z.points
         z.edges bar w) }
 {
-    let side = bar.side;
     let mut way = w;
-    let mut i = 0;
-    while i < z.points {
+    for i in 0..z.points {
         if is_hopeless(way, need) {
             return way;
         }
-        let t = turned::seen_point(pts, lab, side, bar.label, i);
+        let t = turned::seen_point(pts, lab, bar.side, bar.label, i);
         way = past(pts, keys, z.edges, lab, bar, t, way);
-        i += 1;
     }
     way
 }
@@ -217,16 +199,13 @@ fn past_edges(
     ensures { Alike need w result (past_edges (seen_by pts.now keys.now lab.now bar) z.edges
         bar w) }
 {
-    let side = bar.side;
     let mut way = w;
-    let mut k = 0;
-    while k < z.edges {
+    for k in 0..z.edges {
         if is_hopeless(way, need) {
             return way;
         }
-        let t = turned::seen_edge(pts, keys, lab, side, bar.label, k);
+        let t = turned::seen_edge(pts, keys, lab, bar.side, bar.label, k);
         way = past(pts, keys, z.edges, lab, bar, t, way);
-        k += 1;
     }
     way
 }
@@ -235,30 +214,27 @@ fn past_edges(
 fn past_macro(bar: Bar, m: Macro, w: Way) -> Way
     ensures { result ≡ past_face bar (face bar.side m) w }
 {
-    let side = bar.side;
-    let f = turned::face_of(side, m);
+    let f = turned::face_of(bar.side, m);
     if (f.starts < bar.last.along) & ((bar.first.along < f.finishes) & (bar.first.across < f.far)) {
-        let d = turned::beyond(bar.first.across, f.near + 1);
-        return Way {
-            stop: turned::smaller(w.stop, d),
+        let d = (f.near + 1).saturating_sub(bar.first.across);
+        Way {
+            stop: w.stop.min(d),
             free: w.free & (bar.most < d),
-        };
+        }
+    } else {
+        w
     }
-    w
 }
 
 fn past_macros(macros: &[i32], bar: Bar, need: u64, w: Way) -> Way
     ensures { Alike need w result (past_macros macros.now bar w) }
 {
-    let k = macros.len() / 4;
     let mut way = w;
-    let mut i = 0;
-    while i < k {
+    for i in 0..macros.len() / 4 {
         if is_hopeless(way, need) {
             return way;
         }
         way = past_macro(bar, clear::macro_at(macros, i), way);
-        i += 1;
     }
     way
 }
@@ -287,7 +263,8 @@ pub fn reach(
     let v = past_points(pts, keys, z, lab, bar, need, w);
     let u = past_edges(pts, keys, z, lab, bar, need, v);
     if u.free {
-        return bar.most;
+        bar.most
+    } else {
+        u.stop.saturating_sub(1)
     }
-    turned::beyond(1, u.stop)
 }

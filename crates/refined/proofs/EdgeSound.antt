@@ -5,13 +5,13 @@ use mathlib.Core.Path.{◌≡◌, refl, sym, ap, ◌∙◌, subst}
 use mathlib.Core.Bool.{true, false}
 use mathlib.Core.Logic.{inl, inr}
 use mathlib.Core.List.{List}
-use Prim.Native.Nat.{ℕ, zero, suc, ◌+◌, ◌*◌, ◌≤◌, ◌<◌}
+use Prim.Native.Nat.{ℕ, zero, suc, ◌+◌, ◌≤◌, ◌<◌}
 use native.Mathlib.Omega.{arith}
 use lib.Dec.{ltb}
 use lib.IntN.{ℤ}
 use lib.ListN.{length, get_or}
 use borrow.Author.Tests.{ltb-true, ltb-false}
-use Rattle.lists.specs.Member.{◌∈◌, Among}
+use Rattle.lists.specs.Member.{Among}
 use Rattle.lists.specs.Sorted.{first_then, Ascending}
 use Rattle.lists.proofs.TestLaws.{by}
 use Rattle.plane.specs.declared.Place.{Place}
@@ -25,8 +25,8 @@ use Rattle.joined.specs.OneTree.{Point, OneTree}
 use Rattle.joined.proofs.WayLaws.{way-more}
 use Rattle.graph.specs.Edges.{before_edge}
 use Rattle.refiner.specs.declared.Refined.{Refined}
-use Rattle.tree.specs.Table.{tree_bound, first_end, second_end, In, Within, Tree, tree}
-use Rattle.tree.specs.Places.{ends_of, edges_of, tree_total, Ranked, Sound}
+use Rattle.tree.specs.Table.{first_end, second_end, In, Within, Tree, tree}
+use Rattle.tree.specs.Places.{ends_of, edges_of, tree_total, Ranked}
 use Rattle.tree.specs.Edges.{edges_from, table_edges, tree_edges}
 use Rattle.refiner.specs.Refined.{total, Answer}
 use Rattle.refiner.specs.Promise.{Promise, Tabled}

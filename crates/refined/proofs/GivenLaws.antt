@@ -13,11 +13,17 @@ use Rattle.lent.specs.Over.{over}
 use Rattle.lent.specs.Entries.{flat}
 use Rattle.lent.proofs.OverLaws.{over_none}
 use Rattle.lent.proofs.EntryTable.{flat_append}
-use Rattle.plane.specs.declared.Place.{Place}
 use Rattle.graph.specs.Numbers.{edge_numbers}
 pub use Rattle.graph.proofs.GivenEdges.{Edge, sets-append, over-sets, edges-long}
 use Rattle.tree.specs.Places.{ends_of}
 use Rattle.tree.specs.Edges.{edges_from, table_edges}
+
+-- an edge is given as it is
+abbrev pub itself : Edge → List Edge
+itself x = x ∷ []
+
+abbrev pub all : List Edge → List Edge
+all l = l
 
 -- `part` gives some entries for an edge, `give` those of edges one after the other
 module _ (part : Edge → List Edge) (give : List Edge → List Edge) (pts : List ℤ) (ks : List ℕ) (e : ℕ) (lent : List ℤ) where

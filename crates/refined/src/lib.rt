@@ -20,13 +20,11 @@ pub fn give_edges(pts: &[i32; NUMBERS], keys: &[usize; POINTS], e: usize, lent: 
     ensures { lent.new ≡ over (flat edge_numbers (table_edges pts.now keys.now e))
         lent.old }
 {
-    let mut k = 0;
-    while k < e {
+    for k in 0..e {
         let q = keys[k];
-        let a = tree::point_at(pts, q / POINTS);
-        let b = tree::point_at(pts, q % POINTS);
-        graph::put_edge(&mut *lent, k, a, b);
-        k += 1;
+        let a = plane::place_at(pts, q / POINTS);
+        let b = plane::place_at(pts, q % POINTS);
+        graph::put_edge(lent, k, a, b);
     }
 }
 
@@ -35,11 +33,7 @@ pub fn metal(pts: &[i32; NUMBERS], keys: &[usize; POINTS], e: usize) -> u64
     requires { (e ≤ tree_bound) × (Small pair_bound keys.now) }
     ensures { result ≡ metal (table_edges pts.now keys.now e) }
 {
-    let plain = Weights {
-        across: 1,
-        along: 1,
-    };
-    refiner::total(plain, pts, keys, e)
+    refiner::total(Weights::PLAIN, pts, keys, e)
 }
 
 // Where the horizontal wire from a ends and the vertical one to b begins.
@@ -58,7 +52,7 @@ fn put_wire(table: &mut [i32], i: usize, a: Place, b: Place) -> usize
     if plane::distance(a, b) == 0 {
         return i;
     }
-    graph::put_edge(&mut *table, i, a, b);
+    graph::put_edge(table, i, a, b);
     i + 1
 }
 
@@ -69,8 +63,8 @@ fn put_wires(table: &mut [i32], i: usize, a: Place, b: Place) -> usize
     ensures table_after { table.new ≡ sets table.old (i * 4) (flat edge_numbers (wires_of_edge (a, b))) }
 {
     let c = bend(a, b);
-    let j = put_wire(&mut *table, i, a, c);
-    put_wire(&mut *table, j, c, b)
+    let j = put_wire(table, i, a, c);
+    put_wire(table, j, c, b)
 }
 
 // The wires of the first e edges, in order; how many there are.
@@ -81,13 +75,11 @@ pub fn give_wires(pts: &[i32; NUMBERS], keys: &[usize; POINTS], e: usize, lent: 
         lent.old }
 {
     let mut count = 0;
-    let mut k = 0;
-    while k < e {
+    for k in 0..e {
         let q = keys[k];
-        let a = tree::point_at(pts, q / POINTS);
-        let b = tree::point_at(pts, q % POINTS);
-        count = put_wires(&mut *lent, count, a, b);
-        k += 1;
+        let a = plane::place_at(pts, q / POINTS);
+        let b = plane::place_at(pts, q % POINTS);
+        count = put_wires(lent, count, a, b);
     }
     count
 }

@@ -1,29 +1,28 @@
 -- In a tree no two edges of the table have the same ends: without one of them all points would still be joined, by too few edges.
 -- Assumes nothing.
-use mathlib.Core.Path.{◌≡◌, refl, sym, ap, ap₂, ◌∙◌, subst}
-use mathlib.Core.Bool.{true, false}
-use mathlib.Core.Logic.{◌⊎◌, inl, inr}
+use mathlib.Core.Path.{◌≡◌, sym, ap, ◌∙◌}
+use mathlib.Core.Logic.{inl}
 use mathlib.Core.List.Memᴰ
-use mathlib.Core.List.{List, [], ◌∷◌}
-use Prim.Native.Nat.{ℕ, zero, suc, ◌+◌, ◌-◌, ◌*◌, ◌/◌, ◌%◌, ◌≤◌, ◌<◌}
+use mathlib.Core.List.{List}
+use Prim.Native.Nat.{ℕ, suc, ◌-◌, ◌≤◌, ◌<◌}
 use native.Mathlib.Omega.{arith}
 use lib.Dec.{ltb, eqb}
 use lib.IntN.{ℤ}
-use lib.ListN.{length, get_or}
+use lib.ListN.{get_or}
 use borrow.Author.Tests.{ltb-true, ltb-false, eqb-true, eqb-false}
 use Rattle.lists.specs.Member.{◌∈◌}
-use Rattle.lists.proofs.TestLaws.{by, either}
+use Rattle.lists.proofs.TestLaws.{by}
 use Rattle.plane.specs.declared.Place.{Place}
 use Rattle.plane.specs.Flat.{place_at}
-use Rattle.joined.specs.Joined.{Link, Alike, Joined, Joins}
+use Rattle.joined.specs.Joined.{Alike, Joined, Joins}
 use Rattle.joined.specs.Tree as joined
 use Rattle.joined.proofs.JoinedLaws.{one, through}
 use Rattle.joined.proofs.OtherLaws.{alike-sym, alike-trans, alike-joined}
 use Rattle.joined.proofs.CountLaws.{enough}
 use Rattle.tree.specs.Table.{first_end, second_end}
 use Rattle.exchanges.specs.Exchange.{closed}
-use Rattle.tree.specs.Places.{listing, ends_of, points_of, edges_of}
-use Rattle.exchanges.proofs.ExchangeSums.{closed_at, skip, skip-low, skip-high}
+use Rattle.tree.specs.Places.{ends_of, points_of, edges_of}
+use Rattle.exchanges.proofs.ExchangeSums.{closed_at, skip-low, skip-high}
 use Rattle.tree.proofs.ListingLaws.{listing-length, in-listing, of-listing}
 use Rattle.tree.proofs.PointLaws.{same-place}
 

@@ -1,7 +1,6 @@
 -- Where the entries of a table in order stand once a key is put in: those below the key stay, the others move on by one.
 -- Assumes nothing.
 use mathlib.Core.Path.{◌≡◌, refl, sym, ap, ◌∙◌}
-use mathlib.Core.Bool.{true, false}
 use mathlib.Core.List.{List}
 use Prim.Native.Nat.{ℕ, zero, suc, ◌+◌, ◌≤◌, ◌<◌}
 use native.Mathlib.Omega.{arith}
@@ -16,7 +15,6 @@ use Rattle.refiner.specs.Graft.{not_below, key_rank}
 use Rattle.exchanges.proofs.ExchangeLaws.{bump-lt, bump-ge}
 use Rattle.exchanges.proofs.ExchangeSums.{carrying-low}
 use Rattle.exchanges.proofs.OpenedLaws.{seek-before, seek_hit}
-use Rattle.exchanges.proofs.WithinLaws.{seek-le}
 
 -- the entries from i on, n of them, rise
 abbrev Rises : List ℕ → ℕ → ℕ → Type 0

@@ -1,9 +1,9 @@
 -- Laws of laying a way, as the code goes through them.
 -- Assumes nothing.
 use mathlib.Core.Path.{◌≡◌, refl, sym, ap, ◌∙◌}
-use mathlib.Core.Bool.{true, false, not}
-use mathlib.Core.List.{List, [], ◌∷◌}
-use Prim.Native.Nat.{ℕ, suc, ◌+◌, ◌-◌, ◌≤◌, ◌<◌}
+use mathlib.Core.Bool.{true, false}
+use mathlib.Core.List.{List}
+use Prim.Native.Nat.{ℕ, suc, ◌+◌, ◌≤◌, ◌<◌}
 use native.Mathlib.Omega.{arith}
 use lib.Dec.{ltb}
 use lib.IntN.{ℤ}
@@ -16,23 +16,15 @@ use Rattle.plane.specs.Rank.{rank}
 use Rattle.forest.specs.Bounds.{point_bound}
 use Rattle.forest.specs.Parents.{way_after, Nearing}
 use Rattle.forest.proofs.WayLaws.{after-go, after_none}
-use Rattle.tree.specs.Table.{tree_bound, key, In, Within}
+use Rattle.tree.specs.Table.{tree_bound, In}
 use Rattle.refiner.specs.declared.Growth.{Growth}
-use Rattle.lists.specs.Turns.{turns, seek}
+use Rattle.lists.specs.Turns.{turns}
 use Rattle.exchanges.specs.Exchange.{opened, bump, bump_at, carrying}
 use Rattle.refiner.specs.Graft.{Grown, grown, pair_key, not_below, key_rank, leaf, grafted, Growing}
 use Rattle.exchanges.proofs.ExchangeLaws.{bump-lt, bump-ge}
 use Rattle.exchanges.proofs.WithinLaws.{bump-in, in-key, within_more, within-bumped, within-carrying, rank-le}
 
 -- Keys
-
-pub pair-less : (a b : ℕ) → a < b → key a b ≡ pair_key a b
-unfolding pair_key
-pair-less a b h = rw (pair_key, lt-ltb a b h) refl
-
-pub pair-more : (a b : ℕ) → b ≤ a → key b a ≡ pair_key a b
-unfolding pair_key
-pair-more a b h = rw (pair_key, le-ltb a b h) refl
 
 pub in_pair : (n a b : ℕ) → a < n → b < n → n ≤ tree_bound → In n (pair_key a b)
 unfolding pair_key

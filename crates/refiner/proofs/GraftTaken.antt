@@ -2,11 +2,11 @@
 -- laid and then the tree's way from v. So the exchange on the tree serves for both.
 -- Assumes nothing.
 use mathlib.Core.Path.{◌≡◌, refl, sym, ap, ap₂, ◌∙◌, subst}
-use mathlib.Core.Bool.{true, false, not, ◌||◌}
-use mathlib.Core.Logic.{◌⊎◌, inl, inr}
+use mathlib.Core.Bool.{false}
+use mathlib.Core.Logic.{inl, inr}
 use mathlib.Core.List.Memᴰ
 use mathlib.Core.List.{List, [], ◌∷◌, ◌++◌, map}
-use Prim.Native.Nat.{ℕ, zero, suc, ◌+◌, ◌*◌, ◌≤◌, ◌<◌}
+use Prim.Native.Nat.{ℕ, ◌+◌, ◌*◌, ◌≤◌, ◌<◌}
 use native.Mathlib.Omega.{arith}
 use lib.Dec.{ltb}
 use lib.IntN.{ℤ}
@@ -14,7 +14,7 @@ use lib.ListN.{length, get_or}
 use borrow.Author.Tests.{ltb-true, ltb-false}
 use Rattle.lists.specs.Member.{◌∈◌, here, there, Among, Once}
 use Rattle.lists.proofs.TestLaws.{by, differ, either, or-none}
-use Rattle.lists.proofs.MapLaws.{in_map, of_map, map-once}
+use Rattle.lists.proofs.MapLaws.{of_map, map-once}
 use Rattle.plane.specs.declared.Place.{Place}
 use Rattle.plane.specs.Place.{before, same_place}
 use Rattle.plane.specs.Middle.{middle_place}
@@ -27,24 +27,23 @@ use Rattle.joined.specs.Way.{Way, stop, go, Free}
 use Rattle.joined.specs.Exchange.{Toward, steps}
 use Rattle.joined.proofs.JoinedLaws.{firsts, seconds}
 use Rattle.joined.proofs.WayLaws.{way-cast, way-more}
-use Rattle.forest.specs.Labels.{far, root}
+use Rattle.forest.specs.Labels.{root}
 use Rattle.forest.specs.Parents.{way_after}
 use Rattle.forest.specs.Setting.{pairs}
 use Rattle.tree.specs.Table.{tree_bound, first_end, second_end, Tree}
 use Rattle.tree.specs.Places.{ends_of, points_of, edges_of, Ranked, Sound}
 use Rattle.tree.proofs.ListingLaws.{in-listing, of-listing}
 use Rattle.longest.specs.Longest.{costs, longest}
-use Rattle.triples.specs.Triple.{sees, dropped}
 use Rattle.candidates.specs.Candidate.{middle_of}
 use Rattle.beside.specs.Beside.{Ground, on_way, middle_beside, labels_in, parents_in, seats_in}
 use Rattle.refiner.specs.Graft.{Grown, grafted}
-use Rattle.refiner.specs.Ready.{vertices_of, vertex_at, Grounded}
-use Rattle.refiner.specs.Sentences.{key_at, end_a, end_b, EndOf, CutAt}
+use Rattle.refiner.specs.Ready.{vertex_at, Grounded}
+use Rattle.refiner.specs.Sentences.{key_at, end_a, end_b, CutAt}
 use Rattle.candidates.specs.Taken.{Taken}
 use Rattle.refiner.proofs.CutSound.{cut-at}
 use Rattle.bounds.proofs.DroppedLaws.{not-dropped, dropped-not, Other}
 use Rattle.refiner.proofs.GraftSound.{Grows, grows-way}
-use Rattle.refiner.proofs.WayBeside.{T, P, way_of, on-near, seated, vertex-one, way-low, way-along, way-single, way-meets, way-hangs}
+use Rattle.refiner.proofs.WayBeside.{on-near, seated, vertex-one, way-low, way-along, way-single, way-meets, way-hangs}
 use Rattle.refiner.proofs.BesideWins.{WinnerOff}
 
 -- Ways put together

@@ -6,7 +6,7 @@ use mathlib.Core.Bool.{true, false, ◌&&◌}
 use mathlib.Core.Logic.{◌⊎◌, inl, inr}
 use mathlib.Core.List.Memᴰ
 use mathlib.Core.List.{List}
-use Prim.Native.Nat.{ℕ, zero, suc, ◌+◌, ◌-◌, ◌*◌, ◌≤◌, ◌<◌}
+use Prim.Native.Nat.{ℕ, suc, ◌+◌, ◌-◌, ◌*◌, ◌≤◌, ◌<◌}
 use native.Mathlib.Omega.{arith}
 use native.Mathlib.Numerals.{add-one}
 use lib.Dec.{ltb}
@@ -16,13 +16,11 @@ use borrow.Author.Tests.{ltb-true, ltb-false}
 use Rattle.lists.specs.Member.{◌∈◌}
 use Rattle.lists.proofs.TestLaws.{by, either, and_left, and_right}
 use Rattle.plane.specs.declared.Place.{Place}
-use Rattle.plane.specs.declared.Macro.{Macro}
-use Rattle.plane.specs.declared.Weights.{Weights}
 use Rattle.plane.specs.Place.{same_place}
 use Rattle.plane.specs.Cost.{cost}
 use Rattle.plane.specs.Macro.{clear}
 use Rattle.plane.specs.Flat.{place_at}
-use Rattle.plane.specs.Rank.{InOrder, rank}
+use Rattle.plane.specs.Rank.{rank}
 use Rattle.plane.proofs.PlaceLaws.{same_true}
 use Rattle.plane.proofs.CostLaws.{cost-comm}
 use Rattle.plane.proofs.MacroLaws.{clear_comm}
@@ -30,7 +28,7 @@ use Rattle.net.specs.Net.{Net, cost_in}
 use Rattle.joined.specs.Joined.{Joined, stay}
 use Rattle.joined.specs.Tree as joined
 use Rattle.joined.proofs.JoinedLaws.{one as one_link, then, back, more}
-use Rattle.tree.specs.Table.{tree_bound, key, first_end, second_end, Tree, tree, In, Within}
+use Rattle.tree.specs.Table.{tree_bound, first_end, second_end, Tree, tree, In, Within}
 use Rattle.tree.specs.Sum.{sum_over}
 use Rattle.tree.specs.Places.{ends_of, points_of, edges_of, key_cost, tree_total, Ranked, Sound}
 use Rattle.tree.proofs.SumLaws.{below-same, below-some, one, one_same, one-some, in_table, of-table}

@@ -1,6 +1,6 @@
 -- What a round works out is what the definitions say, and its choice is in range.
 -- Assumes nothing.
-use mathlib.Core.Path.{◌≡◌, refl, sym, ap, ◌∙◌}
+use mathlib.Core.Path.{◌≡◌, refl, ap, ◌∙◌}
 use mathlib.Core.Bool.{true, false, ◌&&◌, ◌||◌}
 use mathlib.Core.List.{List}
 use Prim.Native.Nat.{ℕ, ◌+◌, ◌≤◌, ◌<◌}
@@ -8,7 +8,7 @@ use native.Mathlib.Omega.{arith}
 use lib.Dec.{ltb, eqb}
 use lib.IntN.{ℤ}
 use lib.ListN.{get_or, replicate}
-use borrow.Author.Tests.{ltb-true, ltb-false, eqb-false}
+use borrow.Author.Tests.{ltb-true, eqb-false}
 use Rattle.lists.proofs.TestLaws.{by, differ, and_left, or-none}
 use Rattle.plane.specs.declared.Macro.{Macro}
 use Rattle.plane.specs.declared.Weights.{Weights}
@@ -89,13 +89,13 @@ module _ (w : Weights) (ms : List Macro) (pts : List ℤ) (n : ℕ) (ks : List �
   -- what is known of a choice: two edges, and a point of the tree or a vertex
   abbrev pub InRange : Choice → Type 0
   InRange c =
-      ((c.edge < e) × (c.cut < e)) × ((c.cut ≡ c.edge → ⊥) × ((c.beside ≡ false → c.point < n) × (c.beside ≡ true → c.point < v)))
+      ((c.best.edge < e) × (c.best.cut < e)) × ((c.best.cut ≡ c.best.edge → ⊥) × ((c.beside ≡ false → c.best.point < n) × (c.beside ≡ true → c.best.point < v)))
 
   on-found : on ≡ found w ms pts n ks e
   unfolding found
   on-found = refl
 
-  either-range : ((either on off).gain ≡ 0 → ⊥) → InRange (either on off)
+  either-range : ((either on off).best.gain ≡ 0 → ⊥) → InRange (either on off)
   unfolding either
   either-range =
       by (ltb on.gain off.gain)
@@ -108,7 +108,7 @@ module _ (w : Weights) (ms : List Macro) (pts : List ℤ) (n : ℕ) (ks : List �
       let r = fine-found w ms pts n ks e on on-found h in
       (r.0, (r.1.0, ((λ q. r.1.1), (λ q. differ q refl)))))
 
-  pub chosen-range : (c : Choice) → c ≡ chosen_of w ms pts n ks e vs v fars ups seat → (c.gain ≡ 0 → ⊥) → InRange c
+  pub chosen-range : (c : Choice) → c ≡ chosen_of w ms pts n ks e vs v fars ups seat → (c.best.gain ≡ 0 → ⊥) → InRange c
   unfolding chosen_of
   chosen-range c q = rw q either-range
 
@@ -116,15 +116,15 @@ module _ (w : Weights) (ms : List Macro) (pts : List ℤ) (n : ℕ) (ks : List �
 
 module _ (vs : List ℤ) (fars ups seat : List ℕ) (t : Tree) (c : Choice) where
   pub exchange-off : c.beside ≡ true → (g : Grown)
-      → g ≡ grafted vs (way_after fars ups c.point) c.point
-      (record { tree = t; last = get_or seat c.point 0; edge = c.edge; cut = c.cut }) → (q : Tree)
-      → q ≡ exchange (best c.gain g.edge g.last g.cut) g.tree.points g.tree.count g.tree.edges.keys
+      → g ≡ grafted vs (way_after fars ups c.best.point) c.best.point
+      (record { tree = t; last = get_or seat c.best.point 0; edge = c.best.edge; cut = c.best.cut }) → (q : Tree)
+      → q ≡ exchange (best c.best.gain g.edge g.last g.cut) g.tree.points g.tree.count g.tree.edges.keys
       g.tree.edges.size → q ≡ exchange_with vs fars ups seat t c
   unfolding exchange_with
   exchange-off b g d q e = e ∙ rw (exchange_with, b, d) refl
 
   pub exchange-on : c.beside ≡ false → (q : Tree)
-      → q ≡ exchange (best c.gain c.edge c.point c.cut) t.points t.count t.edges.keys t.edges.size
+      → q ≡ exchange c.best t.points t.count t.edges.keys t.edges.size
       → q ≡ exchange_with vs fars ups seat t c
   unfolding exchange_with
   exchange-on b q e = e ∙ rw (exchange_with, b) refl
@@ -182,7 +182,7 @@ module _ (g : Ground) (t : Tree) {source fars roots ups vias : List ℕ} {m : �
       unfolding exchange_in
       exchanged-in = rw (fars-in, ups-in, seats-in, chosen-in) refl
 
-      pub exchangeable : Roomy g t → (c.gain ≡ 0 → ⊥) → Exchangeable fars ups seat t.edges.keys t.count t.edges.size c
+      pub exchangeable : Roomy g t → (c.best.gain ≡ 0 → ⊥) → Exchangeable fars ups seat t.edges.keys t.count t.edges.size c
       exchangeable r h =
           let i = chosen-range w ms t.points t.count t.edges.keys t.edges.size g.places
           g.count fars ups seat c chosen h in
@@ -195,9 +195,9 @@ module _ (g : Ground) (t : Tree) {source fars roots ups vias : List ℕ} {m : �
             on = i.1.1.0;
             off = λ b. omega (arith, i.1.1.1 b, small);
             nearing = made-nearing;
-            seated = λ b. rw seats-in (r.seated c.point (i.1.1.1 b));
+            seated = λ b. rw seats-in (r.seated c.best.point (i.1.1.1 b));
             room =
                 λ b.
-                let far = rw (← fars-in, ← ups-in) at (r.room c.point (i.1.1.1 b)) in
+                let far = rw (← fars-in, ← ups-in) at (r.room c.best.point (i.1.1.1 b)) in
                 (far, omega (arith, far, r.spanned.size));
           }

@@ -4,8 +4,8 @@
 use mathlib.Core.Path.{◌≡◌, refl, sym, ap, ◌∙◌, subst}
 use mathlib.Core.Bool.{true}
 use mathlib.Core.List.Memᴰ
-use mathlib.Core.List.{List, []}
-use Prim.Native.Nat.{ℕ, zero, suc, ◌+◌, ◌*◌, ◌≤◌, ◌<◌}
+use mathlib.Core.List.{List}
+use Prim.Native.Nat.{ℕ, zero, suc, ◌+◌, ◌≤◌, ◌<◌}
 use native.Mathlib.Omega.{arith}
 use lib.Dec.{ltb}
 use lib.IntN.{ℤ}
@@ -27,9 +27,9 @@ use Rattle.tree.specs.Table.{tree_bound, Tree}
 use Rattle.exchanges.specs.Prune.{mark_of, mark, marks, pruned}
 use Rattle.refiner.specs.Refined.{refined}
 use Rattle.refiner.specs.Promise.{Promise, Tabled}
-use Rattle.tree.specs.Places.{ends_of, points_of, key_cost, Ranked, Sound}
+use Rattle.tree.specs.Places.{ends_of, points_of, key_cost, Sound}
 use Rattle.tree.proofs.SumLaws.{other, here}
-use Rattle.tree.proofs.ListingLaws.{listing-length, in-listing, of-listing}
+use Rattle.tree.proofs.ListingLaws.{in-listing, of-listing}
 use Rattle.tree.proofs.PointLaws.{same-place}
 use Rattle.exchanges.proofs.WithinLaws.{pruned-few, pruned-within}
 use Rattle.exchanges.proofs.RankedLaws.{prune-ranked}

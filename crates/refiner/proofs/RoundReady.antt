@@ -1,16 +1,15 @@
 -- The rounds on a ground keep a tree over its points in order, with all pins, every edge clear and the edges in order, and room for what
 -- can still come: each round adds vertices of the graph and at most one further point. The total falls by each gain.
 -- Assumes nothing.
-use mathlib.Core.Path.{◌≡◌, refl, sym, ap, ap₂, ◌∙◌, subst}
-use mathlib.Core.Bool.{true, false}
-use mathlib.Core.Logic.{◌⊎◌, inl, inr}
+use mathlib.Core.Path.{◌≡◌, refl, sym, ap, ap₂, ◌∙◌}
+use mathlib.Core.Logic.{inl, inr}
 use mathlib.Core.List.Memᴰ
-use mathlib.Core.List.{List, ◌∷◌, map}
+use mathlib.Core.List.{List, ◌∷◌}
 use Prim.Native.Nat.{ℕ, zero, suc, ◌+◌, ◌≤◌, ◌<◌}
 use native.Mathlib.Omega.{arith}
 use lib.Dec.{ltb, eqb}
 use lib.ListN.{length, get_or, length-map}
-use borrow.Author.Tests.{ltb-true, ltb-false, eqb-false, eq-eqb, ne_eqb}
+use borrow.Author.Tests.{ltb-true, eqb-false, eq-eqb, ne_eqb}
 use Rattle.lists.specs.Member.{◌∈◌}
 use Rattle.lists.proofs.TestLaws.{by, either as cases}
 use Rattle.lists.proofs.MapLaws.{of_map}
@@ -23,13 +22,12 @@ use Rattle.net.specs.Net.{Net, cost_in}
 use Rattle.forest.specs.Labels.{far}
 use Rattle.forest.specs.Parents.{way_after}
 use Rattle.tree.specs.Table.{tree_bound, first_end, second_end, Tree}
-use Rattle.tree.specs.Places.{points_of, key_cost, tree_total, Ranked, Sound}
+use Rattle.tree.specs.Places.{points_of, key_cost, tree_total}
 use Rattle.tree.specs.Outside.{strangers}
 use Rattle.tree.proofs.ListingLaws.{listing-length, in-listing}
 use Rattle.tree.proofs.PointLaws.{order-once}
 use Rattle.tree.proofs.OutsideLaws.{outside-more, outside-fewer, count-strangers}
 use Rattle.candidates.specs.declared.Best.{Best}
-use Rattle.beside.specs.declared.Choice.{Choice}
 use Rattle.longest.specs.Longest.{costs, longest}
 use Rattle.candidates.specs.Candidate.{best, found, middle_of}
 use Rattle.candidates.specs.Candidate as tree
@@ -37,10 +35,10 @@ use Rattle.exchanges.specs.Exchange.{exchange}
 use Rattle.beside.specs.Beside.{Ground, search, middle_beside, either, chosen_of, chosen_in, labels_in, parents_in, seats_in}
 use Rattle.refiner.specs.Graft.{Grown}
 use Rattle.refiner.specs.Round.{exchange_with, exchange_in, rounds_in}
-use Rattle.refiner.specs.Ready.{vertices_of, vertex_at, Grounded, Ready, Roomy}
+use Rattle.refiner.specs.Ready.{vertices_of, vertex_at, Ready, Roomy}
 use Rattle.refiner.specs.Sentences.{key_at}
 use Rattle.bounds.proofs.CostLaws.{cost-at}
-use Rattle.refiner.proofs.WinnerLaws.{Winner, found-wins}
+use Rattle.refiner.proofs.WinnerLaws.{found-wins}
 use Rattle.refiner.proofs.RoundSound.{Won, round-falls, round-kept}
 use Rattle.refiner.proofs.CutSound.{tree-size}
 use Rattle.refiner.proofs.SpanLaws.{tree-reaches}
@@ -238,15 +236,15 @@ module _ (net : Net) (g : Ground) (t : Tree) (m : ℕ) (r : Ready net g t (suc m
   abbrev pub next : Tree
   next = exchange_in g t (chosen_in net.weights net.macros g t)
 
-  pub either-onward : ((either on off).gain ≡ 0 → ⊥) → Onward net g t (exchange_in g t (either on off)) m (either on off).gain
+  pub either-onward : ((either on off).best.gain ≡ 0 → ⊥) → Onward net g t (exchange_in g t (either on off)) m (either on off).best.gain
   unfolding either exchange_in exchange_with
   either-onward =
       by (ltb on.gain off.gain)
       (λ b. rw (either, b) (λ h. off-onward (ltb-true _ _ b)))
       (λ b. rw (either, b) (λ h. on-onward (omega (arith, h))))
 
-  pub round-onward : ((chosen_in net.weights net.macros g t).gain ≡ 0 → ⊥) →
-      Onward net g t next m (chosen_in net.weights net.macros g t).gain
+  pub round-onward : ((chosen_in net.weights net.macros g t).best.gain ≡ 0 → ⊥) →
+      Onward net g t next m (chosen_in net.weights net.macros g t).best.gain
   unfolding chosen_in chosen_of
   round-onward h = either-onward h
 
@@ -274,7 +272,7 @@ unfolding rounds_in
 rounds-ready net g zero t r = (r, omega arith)
 rounds-ready net g (suc m) t r =
     let c = chosen_in net.weights net.macros g t in
-    by (eqb c.gain 0) (λ q. rw (rounds_in, q) (ready-less r, omega arith))
+    by (eqb c.best.gain 0) (λ q. rw (rounds_in, q) (ready-less r, omega arith))
     (λ q.
     let o = round-onward net g t m r (eqb-false _ _ q) in
     let more = rounds-ready net g m (exchange_in g t c) o.ready in
@@ -287,7 +285,7 @@ unfolding rounds_in
 rounds-strange net g zero t r = omega arith
 rounds-strange net g (suc m) t r =
     let c = chosen_in net.weights net.macros g t in
-    by (eqb c.gain 0) (λ q. rw (rounds_in, q) (omega arith))
+    by (eqb c.best.gain 0) (λ q. rw (rounds_in, q) (omega arith))
     (λ q.
     let o = round-onward net g t m r (eqb-false _ _ q) in
     rw (rounds_in, q) (omega (arith, rounds-strange net g m (exchange_in g t c) o.ready, o.strange)))
@@ -306,11 +304,11 @@ rounds-count net g m t r =
 -- The rounds one after the other, as the code goes through them
 
 module _ (w : Weights) (ms : List Macro) (g : Ground) (k : ℕ) (t all : Tree) (h : rounds_in w ms g k t ≡ all) where
-  pub rounds-stop : (less : ℕ) → k ≡ suc less → (chosen_in w ms g t).gain ≡ 0 → t ≡ all
+  pub rounds-stop : (less : ℕ) → k ≡ suc less → (chosen_in w ms g t).best.gain ≡ 0 → t ≡ all
   unfolding rounds_in
   rounds-stop less i q = sym (rw (i, rounds_in, eq-eqb _ _ q) refl) ∙ h
 
-  pub rounds-more : (less : ℕ) → k ≡ suc less → ((chosen_in w ms g t).gain ≡ 0 → ⊥) → (r : Tree) → r ≡ exchange_in g t (chosen_in w ms g t) →
+  pub rounds-more : (less : ℕ) → k ≡ suc less → ((chosen_in w ms g t).best.gain ≡ 0 → ⊥) → (r : Tree) → r ≡ exchange_in g t (chosen_in w ms g t) →
       rounds_in w ms g less r ≡ all
   unfolding rounds_in
   rounds-more less i q r e = rw e (sym (rw (i, rounds_in, ne_eqb _ _ q) refl) ∙ h)

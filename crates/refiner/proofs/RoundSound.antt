@@ -2,13 +2,11 @@
 -- point, and the total falls by the gain.
 -- Assumes nothing.
 use mathlib.Core.Path.{◌≡◌, refl, sym, ap, ◌∙◌, subst}
-use mathlib.Core.List.{List, []}
+use mathlib.Core.List.{List}
 use Prim.Native.Nat.{ℕ, zero, suc, ◌+◌, ◌-◌, ◌*◌, ◌≤◌, ◌<◌}
 use native.Mathlib.Omega.{arith}
-use lib.Dec.{eqb}
 use lib.IntN.{ℤ}
 use lib.ListN.{length, get_or}
-use borrow.Author.Tests.{eqb-false}
 use Rattle.lists.proofs.TestLaws.{by}
 use Rattle.plane.specs.declared.Place.{Place}
 use Rattle.plane.specs.declared.Weights.{Weights}
@@ -19,7 +17,7 @@ use Rattle.candidates.specs.declared.Best.{Best}
 use Rattle.lists.specs.Turns.{turns}
 use Rattle.tree.specs.Table.{tree_bound, first_end, second_end, row, Tree, tree}
 use Rattle.longest.specs.Longest.{edge_cost, costs, longest}
-use Rattle.candidates.specs.Candidate.{middle_of, found}
+use Rattle.candidates.specs.Candidate.{middle_of}
 use Rattle.exchanges.specs.Exchange.{drop_two, stands, bump, bump_at, star, laid_at, exchange}
 use Rattle.refiner.specs.Refined.{add_cost, total}
 use Rattle.tree.specs.Sum.{below, sum_over}
@@ -37,7 +35,7 @@ use Rattle.exchanges.proofs.ExchangeSound.{laid-sound, laid-known, laid-costs}
 use Rattle.refiner.proofs.CutLaws.{Is, cut-is, the-way}
 use Rattle.beside.proofs.HangingLaws.{no-cost}
 use Rattle.bounds.proofs.CostLaws.{cost-at}
-use Rattle.refiner.proofs.WinnerLaws.{Winner, found-wins}
+use Rattle.refiner.proofs.WinnerLaws.{Winner}
 
 -- what is kept where at most m points are new
 pub record Lasting (net : Net) (t r : Tree) (m : ℕ) : Type 0 where

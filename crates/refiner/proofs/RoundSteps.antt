@@ -43,11 +43,11 @@ module _ (net : Net) (g : Ground) where
   abbrev pub choice_in : Tree → Choice
   choice_in t = chosen_in net.weights net.macros g t
 
-  pub rounds-none : (i : ℕ) (t : Tree) → (choice_in t).gain ≡ 0 → turned i t ≡ t
+  pub rounds-none : (i : ℕ) (t : Tree) → (choice_in t).best.gain ≡ 0 → turned i t ≡ t
   unfolding rounds_in
   rounds-none zero t q = refl
-  rounds-none (suc i) t q = rw (rounds_in, eq-eqb (choice_in t).gain 0 q) refl
+  rounds-none (suc i) t q = rw (rounds_in, eq-eqb (choice_in t).best.gain 0 q) refl
 
-  pub rounds-some : (i : ℕ) (t : Tree) → ((choice_in t).gain ≡ 0 → ⊥) → turned (suc i) t ≡ turned i (exchange_in g t (choice_in t))
+  pub rounds-some : (i : ℕ) (t : Tree) → ((choice_in t).best.gain ≡ 0 → ⊥) → turned (suc i) t ≡ turned i (exchange_in g t (choice_in t))
   unfolding rounds_in
-  rounds-some i t q = rw (rounds_in, ne_eqb (choice_in t).gain 0 q) refl
+  rounds-some i t q = rw (rounds_in, ne_eqb (choice_in t).best.gain 0 q) refl

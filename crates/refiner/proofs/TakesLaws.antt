@@ -24,7 +24,7 @@ use Rattle.candidates.specs.declared.Best.{Best}
 use Rattle.lists.specs.Turns.{turns}
 use Rattle.tree.specs.Table.{tree_bound, first_end, second_end, Tree}
 use Rattle.longest.specs.Longest.{costs, longest, cut_of}
-use Rattle.triples.specs.Triple.{sees, taken, dropped, allowed}
+use Rattle.triples.specs.Triple.{sees, dropped, allowed}
 use Rattle.candidates.specs.Candidate.{best, middle_of, weighed, offer, offers, search, found}
 use Rattle.tree.specs.Places.{Sound}
 use Rattle.refiner.specs.Sentences.{key_at, end_a, end_b, cost_at, EndOf, middle_at, CutAt, cut_in, Gains, Takes}

@@ -1,9 +1,8 @@
 -- R23, R27: the way of a vertex to its root hangs on the tree: its steps are edges of the graph, none of its vertices but the root is a
 -- point of the tree, and none comes twice. So with the tree's points its vertices are at most the graph's vertices and the further points.
 -- Assumes nothing.
-use mathlib.Core.Path.{◌≡◌, refl, sym, ap, ap₂, ◌∙◌, subst}
-use mathlib.Core.Bool.{true, false}
-use mathlib.Core.Logic.{◌⊎◌, inl, inr}
+use mathlib.Core.Path.{◌≡◌, refl, sym, ap, ap₂, ◌∙◌}
+use mathlib.Core.Bool.{true}
 use mathlib.Core.List.Memᴰ
 use mathlib.Core.List.{List, [], ◌∷◌, ◌++◌, map}
 use Prim.Native.Nat.{ℕ, zero, suc, ◌+◌, ◌≤◌, ◌<◌}
@@ -34,7 +33,7 @@ use Rattle.forest.specs.Parents.{Parents, way_after}
 use Rattle.forest.specs.Setting.{pairs}
 use Rattle.forest.proofs.Nearest.{joint, link-in}
 use Rattle.forest.proofs.Homeward.{source-label, far-off, root-source, way_home, way-runs, way-once, way-source}
-use Rattle.tree.specs.Table.{tree_bound, Tree}
+use Rattle.tree.specs.Table.{Tree}
 use Rattle.tree.specs.Places.{points_of, Sound}
 use Rattle.tree.specs.Outside.{outside, strangers}
 use Rattle.tree.proofs.SumLaws.{other, here as set_here}
@@ -44,7 +43,7 @@ use Rattle.tree.proofs.OutsideLaws.{outside-rest}
 use Rattle.lists.specs.Turns.{turns}
 use Rattle.beside.specs.Beside.{Ground, take_seat, seats, labels_in, parents_in, seats_in}
 use Rattle.refiner.specs.Ready.{vertices_of, vertex_at, Grounded}
-use Rattle.refiner.proofs.WayFound.{point-is, is-seated, sources, distance, source_in, in_source, setting, whole}
+use Rattle.refiner.proofs.WayFound.{point-is, is-seated, distance, source_in, in_source, setting, whole}
 use Rattle.refiner.proofs.GraftSound.{Hanging}
 
 -- The table of seats

@@ -1,48 +1,31 @@
 -- R23: the sources are the vertices that are points of the tree. So a vertex beside it is at some distance, its root is the tree point v
 -- that it is joined to, and its way meets the tree there alone.
 -- Assumes nothing.
-use mathlib.Core.Path.{◌≡◌, refl, sym, ap, ◌∙◌, subst}
-use mathlib.Core.Bool.{true, false, ◌&&◌}
+use mathlib.Core.Path.{◌≡◌, sym, ap, ◌∙◌, subst}
+use mathlib.Core.Bool.{true}
 use mathlib.Core.Logic.{◌⊎◌, inl, inr}
 use mathlib.Core.List.Memᴰ
-use mathlib.Core.List.{List, [], ◌∷◌, map}
-use Prim.Native.Nat.{ℕ, zero, suc, ◌+◌, ◌*◌, ◌≤◌, ◌<◌}
+use mathlib.Core.List.{List}
+use Prim.Native.Nat.{ℕ, zero, suc, ◌+◌, ◌≤◌, ◌<◌}
 use native.Mathlib.Omega.{arith}
 use lib.Dec.{ltb}
 use lib.IntN.{ℤ}
-use lib.ListN.{length, get_or, set, replicate}
-use borrow.Author.Tests.{ltb-true, ltb-false, lt-ltb}
+use borrow.Author.Tests.{ltb-true, ltb-false}
 use Rattle.lists.specs.Member.{◌∈◌, here, there, Once}
-use Rattle.lists.proofs.TestLaws.{by, differ, either, and_left, and_right, and_both}
-use Rattle.lists.proofs.MapLaws.{of_map}
+use Rattle.lists.proofs.TestLaws.{by, differ, and_left, and_right}
 use Rattle.plane.specs.declared.Place.{Place}
-use Rattle.plane.specs.Place.{before, same_place}
-use Rattle.plane.specs.Macro.{clear}
 use Rattle.plane.specs.Flat.{place_at}
-use Rattle.plane.specs.Rank.{InOrder, later, rank}
-use Rattle.plane.proofs.PlaceLaws.{same_true, same_refl, before-irrefl}
-use Rattle.plane.proofs.MacroLaws.{clear_comm}
+use Rattle.plane.specs.Rank.{InOrder, rank}
+use Rattle.plane.proofs.PlaceLaws.{same_true, before-irrefl}
 use Rattle.net.specs.Net.{Net, cost_in}
-use Rattle.joined.specs.Joined.{Link}
-use Rattle.joined.specs.Way.{Way, stop, go, long}
-use Rattle.forest.specs.Bounds.{point_bound}
-use Rattle.forest.specs.Edges.{one, two}
-use Rattle.forest.specs.Labels.{Labels, far, root, labelled}
-use Rattle.forest.specs.Parents.{Parents, up, parented, way_after}
-use Rattle.forest.specs.Setting.{pairs, Setting, Whole}
-use Rattle.forest.proofs.Nearest.{joint}
-use Rattle.forest.proofs.Homeward.{source-label, far-off, root-source, way_points, Home, way_home, way-runs, way-once, way-source, Upward}
-use Rattle.forest.proofs.Homeward.{arrived, onto, way-upward}
-use Rattle.tree.specs.Table.{tree_bound, Tree}
+use Rattle.forest.specs.Setting.{Setting, Whole}
+use Rattle.tree.specs.Table.{Tree}
 use Rattle.tree.specs.Places.{points_of, Sound}
 use Rattle.tree.proofs.ListingLaws.{in-listing, of-listing}
-use Rattle.lists.specs.Turns.{turns, seek}
 use Rattle.exchanges.specs.Exchange.{stands}
-use Rattle.beside.specs.Beside.{Ground, is_point, sources_from, take_seat, seats, labels_in, parents_in, seats_in}
-use Rattle.refiner.specs.Ready.{vertices_of, vertex_at, Grounded}
+use Rattle.beside.specs.Beside.{Ground, is_point, sources_from}
+use Rattle.refiner.specs.Ready.{vertex_at, Grounded}
 use Rattle.exchanges.proofs.OpenedLaws.{rank_below, rank-above}
-use Rattle.exchanges.proofs.WithinLaws.{rank-le}
-use Rattle.tree.proofs.SumLaws.{other, here as set_here}
 
 -- Points by their rank
 

@@ -1,6 +1,5 @@
 -- What is promised of a refined tree: rules R14, R20 and R21.
-use Rattle.std.specs.Prelude.{◌≡◌, true, List, ℕ, ◌+◌, ◌≤◌, ◌<◌, length, get_or}
-use Rattle.plane.specs.declared.Place.{Place}
+use Rattle.std.specs.Prelude.{◌≡◌, true, ℕ, ◌+◌, ◌≤◌, ◌<◌, length, get_or}
 use Rattle.plane.specs.Macro.{clear}
 use Rattle.plane.specs.Rank.{InOrder}
 use Rattle.net.specs.Net.{Net}

@@ -1,5 +1,5 @@
 -- What a round asks for: a ground that is the net's graph, and a tree on it with room for the points that can still come.
-use Rattle.std.specs.Prelude.{◌≡◌, true, false, List, [], ℕ, ◌+◌, ◌*◌, ◌≤◌, ◌<◌, ℤ, length, get_or}
+use Rattle.std.specs.Prelude.{◌≡◌, true, false, List, [], ℕ, ◌+◌, ◌*◌, ◌≤◌, ◌<◌, length, get_or}
 use Rattle.lists.specs.Member.{◌∈◌}
 use Rattle.plane.specs.declared.Place.{Place}
 use Rattle.plane.specs.declared.Macro.{Macro}
@@ -17,10 +17,8 @@ use Rattle.tree.specs.Table.{tree_bound, Tree, Within}
 use Rattle.tree.specs.Places.{points_of, Ranked, Sound}
 use Rattle.tree.specs.Outside.{strangers}
 use Rattle.longest.specs.Hung.{Spanned}
-use Rattle.bounds.specs.Carried.{Held}
 use Rattle.beside.specs.Beside.{Ground, labels_in, parents_in, seats_in, chosen_in}
 use Rattle.refiner.specs.Round.{exchange_in}
-use Rattle.refiner.specs.declared.Turn.{Turn}
 use Rattle.beside.specs.declared.Choice.{Choice}
 
 -- the places of its vertices
@@ -66,26 +64,24 @@ pub record Roomy (g : Ground) (t : Tree) : Type 0 where
 pub record Exchangeable (fars ups seat keys : List ℕ) (n e : ℕ) (c : Choice) : Type 0 where
   pub within : Within n keys
   pub few : (n < tree_bound) × (e < tree_bound)
-  pub edge : c.edge < e
-  pub cut : c.cut < e
-  pub two : c.cut ≡ c.edge → ⊥
-  pub on : c.beside ≡ false → c.point < n
-  pub off : c.beside ≡ true → c.point < point_bound
+  pub edge : c.best.edge < e
+  pub cut : c.best.cut < e
+  pub two : c.best.cut ≡ c.best.edge → ⊥
+  pub on : c.beside ≡ false → c.best.point < n
+  pub off : c.beside ≡ true → c.best.point < point_bound
   pub nearing : Nearing fars ups
-  pub seated : c.beside ≡ true → get_or seat c.point 0 < n
-  pub room : c.beside ≡ true → (n + length (way_after fars ups c.point) < tree_bound)
-      × (e + length (way_after fars ups c.point) < tree_bound)
+  pub seated : c.beside ≡ true → get_or seat c.best.point 0 < n
+  pub room : c.beside ≡ true → (n + length (way_after fars ups c.best.point) < tree_bound)
+      × (e + length (way_after fars ups c.best.point) < tree_bound)
 
--- what a round does: r says whether a candidate gained, and q is the tree after it
-pub record Turned (w : Weights) (ms : List Macro) (g : Ground) (t : Tree) (r : Turn) (q : Tree) : Type 0 where
-  pub still : r.moved ≡ false → ((chosen_in w ms g t).gain ≡ 0) × (q ≡ t)
-  pub moved : r.moved ≡ true → ((chosen_in w ms g t).gain ≡ 0 → ⊥) × (q ≡ exchange_in g t (chosen_in w ms g t))
+-- a round of the tree t in which no candidate gains: the tree q after it is t
+pub record Still (w : Weights) (ms : List Macro) (g : Ground) (t q : Tree) : Type 0 where
+  pub gain : (chosen_in w ms g t).best.gain ≡ 0
+  pub same : q ≡ t
+
+-- a round in which one gains: q is the tree after its exchange
+pub record Turned (w : Weights) (ms : List Macro) (g : Ground) (t q : Tree) : Type 0 where
+  pub gain : (chosen_in w ms g t).best.gain ≡ 0 → ⊥
+  pub moved : q ≡ exchange_in g t (chosen_in w ms g t)
   pub few : (q.count ≤ tree_bound) × (q.edges.size ≤ tree_bound)
   pub within : Within q.count q.edges.keys
-
--- what a round leaves of the tree before it: where a candidate gained, its points and edges, and the bounds of its edges
-pub record Kept (w : Weights) (ms : List Macro) (pts : List ℤ) (n : ℕ) (keys : List ℕ) (e : ℕ) (r : Turn) (old : List ℤ)
-    (before bound : List ℕ) : Type 0 where
-  pub points : r.moved ≡ true → old ≡ pts
-  pub edges : r.moved ≡ true → before ≡ keys
-  pub held : Held w ms pts n keys e bound

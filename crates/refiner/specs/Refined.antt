@@ -1,7 +1,5 @@
 -- The refined tree of a tree.
 use Rattle.std.specs.Prelude.{◌≡◌, List, ℕ, ◌+◌, ◌≤◌, ℤ, length}
-use Rattle.plane.specs.declared.Place.{Place}
-use Rattle.plane.specs.declared.Macro.{Macro}
 use Rattle.plane.specs.declared.Weights.{Weights}
 use Rattle.net.specs.Net.{Net}
 use Rattle.refiner.specs.declared.Refined.{Refined}

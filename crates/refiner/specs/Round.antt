@@ -15,11 +15,11 @@ unfoldable pub exchange_with : List ℤ → List ℕ → List ℕ → List ℕ �
 exchange_with vs fars ups seat t c =
     elim c.beside [
       | true ↦
-          let g = grafted vs (way_after fars ups c.point) c.point
-          (record { tree = t; last = get_or seat c.point 0; edge = c.edge; cut = c.cut }) in
-          exchange (best c.gain g.edge g.last g.cut) g.tree.points g.tree.count g.tree.edges.keys
+          let g = grafted vs (way_after fars ups c.best.point) c.best.point
+          (record { tree = t; last = get_or seat c.best.point 0; edge = c.best.edge; cut = c.best.cut }) in
+          exchange (best c.best.gain g.edge g.last g.cut) g.tree.points g.tree.count g.tree.edges.keys
           g.tree.edges.size
-      | false ↦ exchange (best c.gain c.edge c.point c.cut) t.points t.count t.edges.keys t.edges.size
+      | false ↦ exchange c.best t.points t.count t.edges.keys t.edges.size
     ]
 
 unfoldable pub exchange_in : Ground → Tree → Choice → Tree
@@ -30,4 +30,4 @@ unfoldable pub rounds_in : Weights → List Macro → Ground → ℕ → Tree �
 rounds_in w ms g zero t = t
 rounds_in w ms g (suc m) t =
     let c = chosen_in w ms g t in
-    elim (eqb c.gain 0) [ true ↦ t | false ↦ rounds_in w ms g m (exchange_in g t c) ]
+    elim (eqb c.best.gain 0) [ true ↦ t | false ↦ rounds_in w ms g m (exchange_in g t c) ]

@@ -12,14 +12,16 @@ use plane::Place;
 use tree::{NUMBERS, POINTS};
 
 // The key of the edge of two points.
+#[tactic(auto, unfolding(crate::specs::Graft::pair_key))]
 fn pair_key(a: usize, b: usize) -> usize
     requires { (a ≤ tree_bound) × (b ≤ tree_bound) }
     ensures { result ≡ pair_key a b }
 {
     if a < b {
-        return a * POINTS + b;
+        a * POINTS + b
+    } else {
+        b * POINTS + a
     }
-    b * POINTS + a
 }
 
 // How many of e keys come before a key.
@@ -27,14 +29,12 @@ fn key_rank(keys: &[usize; POINTS], e: usize, key: usize) -> usize
     requires { e ≤ tree_bound }
     ensures { result ≡ key_rank keys.now e key }
 {
-    let mut i = 0;
-    while i < e {
+    for i in 0..e {
         if key <= keys[i] {
             return i;
         }
-        i += 1;
     }
-    i
+    e
 }
 
 // x put in, with an edge to the last point.
@@ -43,12 +43,12 @@ fn leaf(pts: &mut [i32; NUMBERS], keys: &mut [usize; POINTS], x: Place, g: Growt
     ensures result_after { grown pts.new keys.new result ≡ leaf x (grown pts.old keys.old g) }
     ensures points_value { ((result.points ≡ g.points + 1) × (result.edges ≡ g.edges + 1)) × (Growing result keys.new) }
 {
-    let p = exchange::rank(&*pts, g.points, x);
-    exchange::open(&mut *pts, g.points, p, x);
-    exchange::renumber(&mut *keys, g.edges, p);
+    let p = exchange::rank(pts, g.points, x);
+    exchange::open(pts, g.points, p, x);
+    exchange::renumber(keys, g.edges, p);
     let key = pair_key(p, exchange::bump(p, g.last));
-    let i = key_rank(&*keys, g.edges, key);
-    exchange::insert(&mut *keys, g.edges, key);
+    let i = key_rank(keys, g.edges, key);
+    exchange::insert(keys, g.edges, key);
     Growth {
         points: g.points + 1,
         edges: g.edges + 1,
@@ -79,8 +79,9 @@ pub fn graft(
 {
     let y = up[u];
     if y < VERTICES {
-        let h = graft(vertices, far, up, y, &mut *pts, &mut *keys, g);
-        return leaf(&mut *pts, &mut *keys, beside::vertex_at(vertices, u), h);
+        let h = graft(vertices, far, up, y, pts, keys, g);
+        leaf(pts, keys, plane::place_at(vertices, u), h)
+    } else {
+        g
     }
-    g
 }

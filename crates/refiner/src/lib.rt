@@ -38,14 +38,6 @@ pub struct Growth {
     pub cut: usize,
 }
 
-// What a round did: whether a candidate gained, and how many points and edges there are then.
-#[derive(Clone, Copy)]
-pub struct Turn {
-    pub moved: bool,
-    pub points: usize,
-    pub edges: usize,
-}
-
 // A refined tree: how many points and edges it has, and what its edges cost together.
 #[derive(Clone, Copy)]
 pub struct Refined {
@@ -88,9 +80,9 @@ pub fn rounds(
     let mut bound = [0u64; POINTS];
     let mut was = z;
     let mut known = false;
-    let mut r = 0;
-    while r < m {
-        let y = round::round(
+    // Kept: r is read by the proof alone, to which `for _` gives no index.
+    for r in 0..m {
+        let Some(y) = round::round(
             w,
             known,
             &mut old,
@@ -98,10 +90,10 @@ pub fn rounds(
             &mut before,
             was.edges,
             &mut bound,
-            &mut *pts,
+            pts,
             z.points,
             macros,
-            &mut *keys,
+            keys,
             z.edges,
             vertices,
             v,
@@ -109,17 +101,12 @@ pub fn rounds(
             eb,
             el,
             f,
-        );
-        if !y.moved {
+        ) else {
             return z;
-        }
+        };
         known = true;
         was = z;
-        z = Size {
-            points: y.points,
-            edges: y.edges,
-        };
-        r += 1;
+        z = y;
     }
     z
 }
@@ -130,10 +117,8 @@ pub fn total(w: Weights, pts: &[i32; NUMBERS], keys: &[usize; POINTS], e: usize)
     ensures { result ≡ total w pts.now keys.now e }
 {
     let mut sum = 0;
-    let mut k = 0;
-    while k < e {
+    for k in 0..e {
         sum += longest::edge_cost(w, pts, keys, k);
-        k += 1;
     }
     sum
 }
@@ -161,13 +146,11 @@ pub fn refine(
         (tree pts.old n keys.old e) pts.new keys.new result }
 {
     let w = net.weights;
-    let z = rounds(
-        w, pins, macros, &mut *pts, n, &mut *keys, e, vertices, v, ea, eb, el, f,
-    );
-    let left = prune::prune_points(pins, &*pts, z.points, &mut *keys, z.edges);
+    let z = rounds(w, pins, macros, pts, n, keys, e, vertices, v, ea, eb, el, f);
+    let left = prune::prune_points(pins, pts, z.points, keys, z.edges);
     Refined {
         points: z.points,
         edges: left,
-        total: total(w, &*pts, &*keys, left),
+        total: total(w, pts, keys, left),
     }
 }

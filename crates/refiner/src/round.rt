@@ -1,15 +1,15 @@
 // A round: roots and ways of the vertices beside the tree, the candidate that is taken, and its exchange.
-ghost use Rattle.std.specs.Prelude.{◌≡◌, true, ◌≤◌};
+ghost use Rattle.std.specs.Prelude.{◌≡◌, true, ◌≤◌, MatchOption, IfSome};
 ghost use Rattle.plane.specs.Flat.{macros_of};
 ghost use Rattle.forest.specs.Bounds.{point_bound};
 ghost use Rattle.forest.specs.Edges.{graph, Fits};
 ghost use Rattle.tree.specs.Table.{tree_bound, pair_bound, tree, Small, Within};
 ghost use Rattle.beside.specs.Beside.{ground};
 ghost use Rattle.refiner.specs.Round.{exchange_with};
-ghost use Rattle.bounds.specs.Carried.{Was};
-ghost use Rattle.refiner.specs.Ready.{Exchangeable, Roomy, Turned, Kept};
+ghost use Rattle.bounds.specs.Carried.{Held, Was};
+ghost use Rattle.refiner.specs.Ready.{Exchangeable, Roomy, Still, Turned};
 
-use crate::{EDGES, Growth, Turn, graft};
+use crate::{EDGES, Growth, graft};
 use beside::{Choice, VERTEX_NUMBERS, VERTICES};
 use candidates::Best;
 use exchanges::exchange;
@@ -34,52 +34,30 @@ pub fn exchanged(
         (tree pts.old n keys.old e) c)
         × (((result.points ≤ tree_bound) × (result.edges ≤ tree_bound)) × (Within result.points keys.new)) }
 {
-    let u = c.point;
+    let best = c.best;
     if c.beside {
-        let last = seat[u];
-        let g = graft::graft(
-            vertices,
-            far,
-            up,
-            u,
-            &mut *pts,
-            &mut *keys,
-            Growth {
-                points: n,
-                edges: e,
-                last: last,
-                edge: c.edge,
-                cut: c.cut,
-            },
-        );
-        return exchange::exchange(
-            &mut *pts,
-            g.points,
-            &mut *keys,
-            g.edges,
-            Best {
-                gain: c.gain,
-                edge: g.edge,
-                point: g.last,
-                cut: g.cut,
-            },
-        );
+        let start = Growth {
+            points: n,
+            edges: e,
+            last: seat[best.point],
+            edge: best.edge,
+            cut: best.cut,
+        };
+        let g = graft::graft(vertices, far, up, best.point, pts, keys, start);
+        let end = Best {
+            edge: g.edge,
+            point: g.last,
+            cut: g.cut,
+            ..best
+        };
+        exchange::exchange(pts, g.points, keys, g.edges, end)
+    } else {
+        exchange::exchange(pts, n, keys, e, best)
     }
-    exchange::exchange(
-        &mut *pts,
-        n,
-        &mut *keys,
-        e,
-        Best {
-            gain: c.gain,
-            edge: c.edge,
-            point: u,
-            cut: c.cut,
-        },
-    )
 }
 
-// A round: whether a candidate gained, and the tree after it. The tree before it and the bounds of its edges are then known.
+// A round: how many points and edges there are after it, or None where no candidate gains. The tree before it and the bounds of its edges
+// are known then.
 pub fn round(
     w: Weights,
     known: bool,
@@ -99,19 +77,20 @@ pub fn round(
     eb: &[usize; EDGES],
     el: &[u64; EDGES],
     f: usize,
-) -> Turn
+) -> Option<Size>
     requires fits { (Fits (graph ea.now eb.now el.now f)) × (v ≤ point_bound) }
     requires roomy { Roomy (ground vertices.now v (graph ea.now eb.now el.now f)) (tree pts.old n keys.old e) }
     requires small { (Small pair_bound before.old) × (known ≡ true → Was w (macros_of macros.now) old.old m before.old k bound.old) }
-    ensures turned { Turned w (macros_of macros.now)
-        (ground vertices.now v (graph ea.now eb.now el.now f))
-        (tree pts.old n keys.old e) result
-        (tree pts.new result.points keys.new result.edges) }
-    ensures kept { Kept w (macros_of macros.now) pts.old n keys.old e result old.new
-        before.new bound.new }
+    ensures turned { MatchOption result
+        (Still w (macros_of macros.now) (ground vertices.now v (graph ea.now eb.now el.now f)) (tree pts.old n keys.old e)
+        (tree pts.new n keys.new e))
+        (λ z. Turned w (macros_of macros.now) (ground vertices.now v (graph ea.now eb.now el.now f)) (tree pts.old n keys.old e)
+        (tree pts.new z.points keys.new z.edges)) }
+    ensures kept { IfSome result (λ z. (old.new ≡ pts.old) × (before.new ≡ keys.old)) }
+    ensures held { Held w (macros_of macros.now) pts.old n keys.old e bound.new }
 {
     let mut source = [0usize; VERTICES];
-    let s = beside::sources(&*pts, n, vertices, v, &mut source);
+    let s = beside::sources(pts, n, vertices, v, &mut source);
     let mut far = [forest::UNREACHED; VERTICES];
     let mut root = [0usize; VERTICES];
     let mut up = [VERTICES; VERTICES];
@@ -120,39 +99,14 @@ pub fn round(
         ea, eb, el, f, v, &source, s, &mut far, &mut root, &mut up, &mut via,
     );
     let mut seat = [0usize; VERTICES];
-    beside::seats(&*pts, n, vertices, v, &root, &mut seat);
+    beside::seats(pts, n, vertices, v, &root, &mut seat);
     let c = beside::found(
-        w,
-        known,
-        &*old,
-        m,
-        &*before,
-        k,
-        &*pts,
-        n,
-        macros,
-        &*keys,
-        e,
-        vertices,
-        v,
-        &far,
-        &up,
-        &seat,
-        &mut *bound,
+        w, known, old, m, before, k, pts, n, macros, keys, e, vertices, v, &far, &up, &seat, bound,
     );
-    if c.gain == 0 {
-        return Turn {
-            moved: false,
-            points: n,
-            edges: e,
-        };
+    if c.best.gain == 0 {
+        return None;
     }
     *old = *pts;
     *before = *keys;
-    let z = exchanged(vertices, &far, &up, &seat, &mut *pts, n, &mut *keys, e, c);
-    Turn {
-        moved: true,
-        points: z.points,
-        edges: z.edges,
-    }
+    Some(exchanged(vertices, &far, &up, &seat, pts, n, keys, e, c))
 }

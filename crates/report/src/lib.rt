@@ -8,9 +8,7 @@ ghost use Rattle.checks.specs.Check.{checked};
 ghost use Rattle.text.specs.Put.{Filled};
 ghost use Rattle.report.specs.Route.{trees_text, route_text};
 
-use checks::Checked;
-use net::Net;
-use router::BothAnswer;
+use net::{Net, Weighing};
 use text::Header;
 
 const EDGE_NUMBERS: usize = Net::TREE_POINTS * 4;
@@ -28,19 +26,18 @@ fn trees_text(net: Net, pins: &[i32], macros: &[i32], out: &mut [u8; TEXT]) -> u
     ensures { Filled (trees_text net pins.now macros.now) out.old out.new result }
 {
     let mut edges = [0i32; EDGE_NUMBERS];
-    let answer = router::both_trees(net::handed(net.weights), pins, macros, &mut edges);
-    match answer {
-        BothAnswer::Given(count, terminal, refined, metal) => {
+    match router::both_trees(Weighing::from(net.weights), pins, macros, &mut edges) {
+        Ok(both) => {
             let header = Header {
                 pins: net.pins,
                 macros: net.macros,
-                terminal,
-                refined,
-                metal,
+                terminal: both.terminal,
+                refined: both.tree.total,
+                metal: both.tree.metal,
             };
-            text::tree(net.weights, header, &edges, count, out)
+            text::tree(net.weights, header, &edges, both.tree.edges, out)
         }
-        BothAnswer::Refused(refusal) => text::refused(refusal.number(), out),
+        Err(refusal) => text::refused(refusal.number(), out),
     }
 }
 
@@ -50,13 +47,12 @@ pub fn route(file: &[u8], out: &mut [u8; TEXT]) -> usize
 {
     let mut pins = [0i32; netfile::PIN_LIST];
     let mut macros = [0i32; netfile::MACRO_LIST];
-    let answer = router::read_file(file, &mut pins, &mut macros);
-    match answer {
-        Checked::Allowed(net) => {
+    match router::read_file(file, &mut pins, &mut macros) {
+        Ok(net) => {
             let m = net.pins * Net::PIN_NUMBERS;
             let k = net.macros * Net::MACRO_NUMBERS;
             trees_text(net, &pins[..m], &macros[..k], out)
         }
-        Checked::Refused(refusal) => text::refused(refusal.number(), out),
+        Err(refusal) => text::refused(refusal.number(), out),
     }
 }

@@ -18,7 +18,6 @@ ghost use Rattle.answers.specs.Refined.{laid_of, laid_total, metal_of};
 ghost use Rattle.answers.specs.Wires.{wires_of};
 
 use net::{Net, Refusal};
-use price::Priced;
 
 // How many vertices and how many edges of a graph were given.
 #[derive(Clone, Copy)]
@@ -112,19 +111,20 @@ fn metal(net: Net, pins: &[i32], macros: &[i32]) -> u64
 }
 
 // The price of its metal. The list of bands is tested before there is a tree: 31, then 37.
-pub fn price(net: Net, pins: &[i32], macros: &[i32], bands: &[u64]) -> Priced
+#[tactic(auto, unfolding(net::specs::Answer::told_by, net::specs::Answer::number, price::specs::Price::priced))]
+pub fn price(net: Net, pins: &[i32], macros: &[i32], bands: &[u64]) -> Result<u64, Refusal>
     requires { Counted net (handed net.weights) pins.now macros.now }
     ensures { told_price result ≡ priced (metal_of (handed net.weights) pins.now macros.now)
         bands.now }
 {
     if bands::bands_miscounted(bands) {
-        return Priced::Refused(Refusal::Bands);
+        return Err(Refusal::Bands);
     }
     if bands::any_rate_above(bands) {
-        return Priced::Refused(Refusal::Bands);
+        return Err(Refusal::Bands);
     }
     if bands::any_step_back(bands) {
-        return Priced::Refused(Refusal::BandOrder);
+        return Err(Refusal::BandOrder);
     }
     price::by_first(metal(net, pins, macros), bands)
 }

@@ -15,6 +15,7 @@ fn read_full<R: Read>(input: &mut R, buffer: &mut [u8]) -> usize
     ensures bytes { Consumes (R.remaining input.old) (R.remaining input.new) (take result buffer.new) }
 {
     let mut done = 0;
+    // Kept: a read puts any number of bytes, so `done` jumps and no `for` counts it.
     while done < buffer.len() {
         match input.read(&mut buffer[done..]) {
             Ok(0) => break,
@@ -27,10 +28,9 @@ fn read_full<R: Read>(input: &mut R, buffer: &mut [u8]) -> usize
 
 // Writes a text. Where it cannot be written, standard error says so, and the exit status is 0 even then.
 fn print<O: Write, E: Write>(output: &mut O, errors: &mut E, text: &[u8]) {
-    if output.write_all(text).is_ok() {
-        return;
+    if output.write_all(text).is_err() {
+        let _ = errors.write_all(b"route: the answer could not be written to standard output\n");
     }
-    let _ = errors.write_all(b"route: the answer could not be written to standard output\n");
 }
 
 fn main(rt: HostRuntime) {

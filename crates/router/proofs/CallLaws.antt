@@ -6,6 +6,8 @@ use Prim.Native.Nat.{ℕ, ◌+◌, ◌*◌}
 use lib.Dec.{ltb}
 use lib.IntN.{ℤ, pos}
 use lib.ListN.{length, replicate}
+use Rattle.std.specs.Prelude.{Result, Ok, Err, IsErrAnd}
+use Rattle.std.proofs.lemmas.Result.{err_from_is_err_and}
 use Rattle.lists.proofs.TestLaws.{by}
 use Rattle.lent.specs.Told.{Told, refused, given, only_if}
 use Rattle.lent.specs.Over.{over, after}
@@ -13,7 +15,7 @@ use Rattle.lent.specs.Entries.{flat}
 use Rattle.lent.proofs.AfterLaws.{after-refused, after-given, told-apart}
 use Rattle.net.specs.declared.Refusal.{Refusal}
 use Rattle.net.specs.declared.Weighing.{Weighing}
-use Rattle.net.specs.Answer.{number}
+use Rattle.net.specs.Answer.{number, told_by}
 use Rattle.net.specs.Pins.{pin_count}
 use Rattle.net.specs.Net.{Net, cost_in}
 use Rattle.checks.specs.Check.{checked}
@@ -30,13 +32,15 @@ use Rattle.answers.specs.Room.{if_room}
 use Rattle.answers.specs.Graph.{point_count}
 use Rattle.answers.specs.Refined.{laid_of, refined_given, refined_tree}
 use Rattle.answers.specs.Both.{both_answer, both_given, both_trees}
-use Rattle.router.specs.declared.DistanceAnswer.{DistanceAnswer}
 use Rattle.router.specs.Answers.{told_distances, told_tree, told_both, told_bound}
-use Rattle.router.specs.declared.TreeAnswer.{TreeAnswer}
-use Rattle.router.specs.declared.BoundAnswer.{BoundAnswer}
-use Rattle.router.specs.declared.BothAnswer.{BothAnswer}
-use Rattle.router.specs.declared.BothAnswer.TheVariants.{Given, Refused}
+use Rattle.router.specs.declared.Tree.{Tree}
+use Rattle.router.specs.declared.Both.{Both}
 use Rattle.router.specs.Call.{Gives, GivesTwo, GivesSquare, GivesBest, GivesBound, RefinedCall, BothCall}
+
+-- a refusal that `?` passes on
+pub told-passed : {T A : Type 0} (f : T → A) (r : Result T Refusal) (e : Refusal) → IsErrAnd r (λ d. d ≡ e) → told_by f r ≡ refused (number e)
+unfolding told_by
+told-passed f r e h = let p = err_from_is_err_and r h in rw (p.1, p.2) refl
 
 module _ {A R X : Type 0} {saying : R → Told A} {t : Told A} {xs lent : List X} {r : R} where
   -- refused, and nothing altered
@@ -63,7 +67,7 @@ module _ {A R X : Type 0} {saying : R → Told A} {t : Told A} {xs ys lent other
       GivesTwo saying u xs ys lent other r lent' other'
   two-as {lent' = lent'} {other' = other'} e g = subst (λ (z : Told A). GivesTwo saying z xs ys lent other r lent' other') e g
 
-module _ {net : Net} {t : Told ℕ} {lent : List ℤ} {r : DistanceAnswer} where
+module _ {net : Net} {t : Told ℕ} {lent : List ℤ} {r : Result ℕ Refusal} where
   pub square-refused : {n : ℕ} → told_distances r ≡ refused n → t ≡ refused n → GivesSquare net t lent r lent
   square-refused {n} s e = record {
     numbers = [];
@@ -84,7 +88,7 @@ module _ {net : Net} {t : Told ℕ} {lent : List ℤ} {r : DistanceAnswer} where
   pub square-as : {u : Told ℕ} {lent' : List ℤ} → t ≡ u → GivesSquare net t lent r lent' → GivesSquare net u lent r lent'
   square-as {lent' = lent'} e g = subst (λ (z : Told ℕ). GivesSquare net z lent r lent') e g
 
-module _ {net : Net} {said : List Edge → Told (ℕ × (ℤ × ℤ))} {work : List ℕ} {lent : List ℤ} {r : TreeAnswer} where
+module _ {net : Net} {said : List Edge → Told (ℕ × (ℤ × ℤ))} {work : List ℕ} {lent : List ℤ} {r : Result Tree Refusal} where
   pub best-refused : {n : ℕ} → told_tree r ≡ refused n → said [] ≡ refused n → GivesBest net said work lent r work lent
   best-refused {n} s e = record {
     tree = [];
@@ -120,7 +124,7 @@ module _ {net : Net} {said : List Edge → Told (ℕ × (ℤ × ℤ))} {work : L
     best = λ a h. g.best a (e g.tree ∙ h);
   }
 
-module _ {net : Net} {said : ℕ → Told ℕ} {left rows : List ℕ} {r : BoundAnswer} where
+module _ {net : Net} {said : ℕ → Told ℕ} {left rows : List ℕ} {r : Result ℕ Refusal} where
   pub bound-refused : {n : ℕ} → told_bound r ≡ refused n → said 0 ≡ refused n → GivesBound net said left rows r left rows
   bound-refused {n} s e = record {
     bound = 0;
@@ -178,9 +182,9 @@ module _ (w : Weighing) (pins macros : List ℤ) (room : ℕ) where
       ∙ ap (only_if (checked w pins macros)) (alone-room ((point_count pins macros + pin_count pins) * 4) room (both_answer w pins macros))
 
 -- an answer that leaves the terminal tree's total out
-pub refined-alone : (w : Weighing) (pins macros : List ℤ) {edges : List ℤ} {b : BothAnswer} {edges' : List ℤ}
+pub refined-alone : (w : Weighing) (pins macros : List ℤ) {edges : List ℤ} {b : Result Both Refusal} {edges' : List ℤ}
     → BothCall both_trees w pins macros edges b edges'
-    → (r : TreeAnswer) → told_tree r ≡ alone (told_both b) → RefinedCall refined_tree w pins macros edges r edges'
+    → (r : Result Tree Refusal) → told_tree r ≡ alone (told_both b) → RefinedCall refined_tree w pins macros edges r edges'
 refined-alone w pins macros {edges} g r e = record {
   answer = e ∙ ap alone g.answer ∙ both-refined w pins macros (length edges);
   list =
@@ -190,11 +194,10 @@ refined-alone w pins macros {edges} g r e = record {
       (both-refined w pins macros (length edges));
 }
 
-pub alone-given : {b : BothAnswer} (n : ℕ) (terminal total metal : ℤ) → b ≡ Given n terminal total metal
-    → given (n, (total, metal)) ≡ alone (told_both b)
-unfolding alone told_both
-alone-given n terminal total metal e = rw e refl
+pub alone-given : (both : Both) → told_tree (Ok both.tree) ≡ alone (told_both (Ok both))
+unfolding alone told_by
+alone-given both = refl
 
-pub alone-refused : {b : BothAnswer} (f : Refusal) → b ≡ Refused f → refused (number f) ≡ alone (told_both b)
-unfolding alone told_both
-alone-refused f e = rw e refl
+pub alone-refused : (f : Refusal) → refused (number f) ≡ alone (told_both (Err f))
+unfolding alone told_by
+alone-refused f = refl

@@ -43,8 +43,8 @@ use Rattle.refined.proofs.NetRefined.{union-tabled}
 use Rattle.slide.proofs.SlidSound.{given-sound}
 use Rattle.slide.proofs.StateLaws.{first-pin}
 use Rattle.floats.specs.declared.Technology.{Technology}
-use Rattle.floats.specs.declared.Delay.{Delay}
-use Rattle.floats.specs.declared.Delay.TheVariants.{Finite, NotFinite}
+use Rattle.std.specs.Prelude.{Some, None}
+use Rattle.floats.specs.Mark.{Delay}
 use Rattle.floats.specs.Mark.{marked, is_mark, finites, usable, pins_from, marks_from}
 use Rattle.delay.specs.Answer.{marks_of, delay_answer, delay_of}
 use Rattle.delay.specs.Table.{Loaded, driver_in, table_from}
@@ -130,8 +130,8 @@ module _ (w : Weighing) (pins macros : List ℤ) (a : Allowed (net_of w pins mac
 finites-all : (l : List Delay) → any is_mark l ≡ false → length (finites l) ≡ length l
 unfolding any is_mark finites
 finites-all [] e = refl
-finites-all (Finite d ∷ l) e = ap suc (finites-all l e)
-finites-all (NotFinite ∷ l) e = differ refl e
+finites-all (Some d ∷ l) e = ap suc (finites-all l e)
+finites-all (None ∷ l) e = differ refl e
 
 -- a call that nothing refuses
 enough : (pins : List ℤ) (es : List (Place × Place)) (driver : Place) (t : Technology) (room : ℕ) → pin_count pins ≤ room → usable t ≡ true

@@ -21,13 +21,13 @@ ghost use Rattle.answers.specs.Bound.{bound_given};
 ghost use Rattle.router.specs.Call.{GraphCall, TerminalCall, BothCall, SlidCall, WiresCall, DistancesCall, DelayCall, BestCall};
 ghost use Rattle.router.specs.Call.{BoundCall};
 
-use crate::{BothAnswer, BoundAnswer, DistanceAnswer, Graphed, TerminalAnswer, TreeAnswer, Wired};
+use crate::{Both, Terminal, Tree};
 use best::Best;
-use delay::Delayed;
 use floats::Technology;
 use lines::Grid;
 use net::{Net, Refusal};
 use plane::Place;
+use results::Spanned;
 use straight::EDGE_NUMBERS as EDGE_TABLE;
 use sweeps::Wide;
 use tree::Size;
@@ -39,77 +39,95 @@ pub fn graph(
     macros: &[i32],
     vertices: &mut [i32],
     edges: &mut [i32],
-) -> Graphed
+) -> Result<Spanned, Refusal>
     requires { Counted net (handed net.weights) pins.now macros.now }
     ensures { GraphCall graph_given (handed net.weights) pins.now macros.now vertices.old
         edges.old result vertices.new edges.new }
 {
     if room::graph_short(net, vertices.len(), edges.len()) {
-        return Graphed::Refused(Refusal::Space);
+        return Err(Refusal::Space);
     }
-    let given = results::graph(net, pins, macros, &mut *vertices, &mut *edges);
-    Graphed::Given(given.vertices, given.edges)
+    Ok(results::graph(net, pins, macros, vertices, edges))
 }
 
 // The terminal tree.
-pub fn terminal_tree(net: Net, pins: &[i32], macros: &[i32], paths: &mut [i64]) -> TerminalAnswer
+pub fn terminal_tree(
+    net: Net,
+    pins: &[i32],
+    macros: &[i32],
+    paths: &mut [i64],
+) -> Result<Terminal, Refusal>
     requires { Counted net (handed net.weights) pins.now macros.now }
     ensures { TerminalCall terminal_given (handed net.weights) pins.now macros.now paths.old result
         paths.new }
 {
     if room::paths_short(net, paths.len()) {
-        return TerminalAnswer::Refused(Refusal::Space);
+        return Err(Refusal::Space);
     }
-    let tree = made::terminal_tree(net, pins, macros, &mut *paths);
-    TerminalAnswer::Given(tree.kept, tree.total as i64)
+    let tree = made::terminal_tree(net, pins, macros, paths);
+    Ok(Terminal {
+        paths: tree.kept,
+        total: tree.total as i64,
+    })
 }
 
 // Both trees: the edges of the refined one, and the totals of both.
-pub fn both_trees(net: Net, pins: &[i32], macros: &[i32], edges: &mut [i32]) -> BothAnswer
+pub fn both_trees(
+    net: Net,
+    pins: &[i32],
+    macros: &[i32],
+    edges: &mut [i32],
+) -> Result<Both, Refusal>
     requires { Counted net (handed net.weights) pins.now macros.now }
     ensures { BothCall both_given (handed net.weights) pins.now macros.now edges.old result
         edges.new }
 {
     if room::edges_short(net, edges.len()) {
-        return BothAnswer::Refused(Refusal::Space);
+        return Err(Refusal::Space);
     }
-    let given = results::edges(net, pins, macros, &mut *edges);
-    BothAnswer::Given(
-        given.edges,
-        given.terminal as i64,
-        given.total as i64,
-        given.metal as i64,
-    )
+    let laid = results::edges(net, pins, macros, edges);
+    let tree = Tree {
+        edges: laid.edges,
+        total: laid.total as i64,
+        metal: laid.metal as i64,
+    };
+    Ok(Both {
+        tree,
+        terminal: laid.terminal as i64,
+    })
 }
 
 // The slid tree.
-pub fn slid_tree(net: Net, pins: &[i32], macros: &[i32], edges: &mut [i32]) -> TreeAnswer
+pub fn slid_tree(net: Net, pins: &[i32], macros: &[i32], edges: &mut [i32]) -> Result<Tree, Refusal>
     requires { Counted net (handed net.weights) pins.now macros.now }
     ensures { SlidCall slid_given (handed net.weights) pins.now macros.now edges.old result
         edges.new }
 {
     if room::wires_short(net, edges.len()) {
-        return TreeAnswer::Refused(Refusal::Space);
+        return Err(Refusal::Space);
     }
     let mut table = [0i32; EDGE_TABLE];
     let count = slide(net, pins, macros, &mut table);
     let total = laid::total(net.weights, &table, count);
     let metal = laid::metal(&table, count);
-    laid::give(&table, count, &mut *edges);
-    TreeAnswer::Given(count, total as i64, metal as i64)
+    laid::give(&table, count, edges);
+    Ok(Tree {
+        edges: count,
+        total: total as i64,
+        metal: metal as i64,
+    })
 }
 
 // The wires.
-pub fn wires(net: Net, pins: &[i32], macros: &[i32], wires: &mut [i32]) -> Wired
+pub fn wires(net: Net, pins: &[i32], macros: &[i32], wires: &mut [i32]) -> Result<usize, Refusal>
     requires { Counted net (handed net.weights) pins.now macros.now }
     ensures { WiresCall wires_given (handed net.weights) pins.now macros.now wires.old result
         wires.new }
 {
     if room::wires_short(net, wires.len()) {
-        return Wired::Refused(Refusal::Space);
+        return Err(Refusal::Space);
     }
-    let count = results::wires(net, pins, macros, &mut *wires);
-    Wired::Given(count)
+    Ok(results::wires(net, pins, macros, wires))
 }
 
 // The delays. What refuses them whatever the tree is said before there is one: 21, then 38, then 39.
@@ -120,23 +138,23 @@ pub fn delay(
     driver: Place,
     t: Technology,
     delays: &mut [f64],
-) -> Delayed
+) -> Result<usize, Refusal>
     requires { Counted net (handed net.weights) pins.now macros.now }
     ensures { DelayCall delay_given (handed net.weights) pins.now macros.now driver t delays.old result
         delays.new }
 {
     let usable = floats::is_usable(t);
-    let found = delay::loads::is_pin(pins, driver);
+    let found = net::is_pin(pins, driver);
     if delays.len() < net.pins {
-        return Delayed::Refused(Refusal::Space);
+        return Err(Refusal::Space);
     }
     if !usable {
-        return Delayed::Refused(Refusal::TechnologyRange);
+        return Err(Refusal::TechnologyRange);
     }
     if !found {
-        return Delayed::Refused(Refusal::DriverNotPin);
+        return Err(Refusal::DriverNotPin);
     }
-    time(net, pins, macros, driver, t, &mut *delays)
+    time(net, pins, macros, driver, t, delays)
 }
 
 // The delays along the refined tree from a driver that is a pin, or 40.
@@ -147,7 +165,7 @@ fn time(
     driver: Place,
     t: Technology,
     delays: &mut [f64],
-) -> Delayed
+) -> Result<usize, Refusal>
     requires counted { Counted net (handed net.weights) pins.now macros.now }
     requires pins_in_bounds { (net.pins ≤ length delays.old) × (any (same_place driver) (pin_places pins.now) ≡ true) }
     ensures result_value { told_delays result ≡ unless_marked net.pins
@@ -166,15 +184,7 @@ fn time(
         edges: tree.edges,
     };
     delay::delays(
-        &points,
-        &keys,
-        size,
-        &pin,
-        &loads,
-        driver,
-        t,
-        net.pins,
-        &mut *delays,
+        &points, &keys, size, &pin, &loads, driver, t, net.pins, delays,
     )
 }
 
@@ -187,25 +197,30 @@ fn slide(net: Net, pins: &[i32], macros: &[i32], table: &mut [i32]) -> usize
     let mut points = [0i32; tree::NUMBERS];
     let mut keys = [0usize; tree::POINTS];
     let tree = made::refine(net, pins, macros, &mut points, &mut keys);
-    refined::give_edges(&points, &keys, tree.edges, &mut *table);
-    slider::slide(net.weights, pins, macros, &mut *table, tree.edges)
+    refined::give_edges(&points, &keys, tree.edges, table);
+    slider::slide(net.weights, pins, macros, table, tree.edges)
 }
 
 // The distances on the grid.
-pub fn grid_distances(net: Net, pins: &[i32], macros: &[i32], table: &mut [i64]) -> DistanceAnswer
+pub fn grid_distances(
+    net: Net,
+    pins: &[i32],
+    macros: &[i32],
+    table: &mut [i64],
+) -> Result<usize, Refusal>
     requires { Counted net (handed net.weights) pins.now macros.now }
     ensures { DistancesCall distances_given (handed net.weights) pins.now macros.now table.old result
         table.new }
 {
     if (Grid::PINS < net.pins) | (Grid::MACROS < net.macros) {
-        return DistanceAnswer::Refused(Refusal::GridSize);
+        return Err(Refusal::GridSize);
     }
     let n = net.pins * net.pins;
     if table.len() < n {
-        return DistanceAnswer::Refused(Refusal::Space);
+        return Err(Refusal::Space);
     }
-    grid::distances(net.weights, pins, macros, &mut *table);
-    DistanceAnswer::Given(n)
+    grid::distances(net.weights, pins, macros, table);
+    Ok(n)
 }
 
 // A best tree.
@@ -215,21 +230,25 @@ pub fn best_tree(
     macros: &[i32],
     work: &mut [u32],
     edges: &mut [i32],
-) -> TreeAnswer
+) -> Result<Tree, Refusal>
     requires { Counted net (handed net.weights) pins.now macros.now }
     ensures { BestCall best_given (handed net.weights) pins.now macros.now work.old
         edges.old result work.new edges.new }
 {
     if (Best::PINS < net.pins) | (Grid::MACROS < net.macros) {
-        return TreeAnswer::Refused(Refusal::BestSize);
+        return Err(Refusal::BestSize);
     }
     let lines = net.pins + net.macros * 2;
     let n = lines * lines * 4;
     if (work.len() < Best::WORK) | (edges.len() < n) {
-        return TreeAnswer::Refused(Refusal::Space);
+        return Err(Refusal::Space);
     }
-    let best = best::best_tree(net.weights, pins, macros, &mut *work, &mut *edges);
-    TreeAnswer::Given(best.edges, best.total as i64, best.metal as i64)
+    let best = best::best_tree(net.weights, pins, macros, work, edges);
+    Ok(Tree {
+        edges: best.edges,
+        total: best.total as i64,
+        metal: best.metal as i64,
+    })
 }
 
 // The lower bound.
@@ -239,14 +258,13 @@ pub fn lower_bound(
     macros: &[i32],
     left: &mut [u32],
     rows: &mut [u64],
-) -> BoundAnswer
+) -> Result<u64, Refusal>
     requires { Counted net (handed net.weights) pins.now macros.now }
     ensures { BoundCall bound_given (handed net.weights) pins.now macros.now left.old
         rows.old result left.new rows.new }
 {
     if (left.len() < Wide::ARCS) | (rows.len() < Wide::CROSSINGS) {
-        return BoundAnswer::Refused(Refusal::Space);
+        return Err(Refusal::Space);
     }
-    let n = bound::lower_bound(net.weights, pins, macros, &mut *left, &mut *rows);
-    BoundAnswer::Given(n)
+    Ok(bound::lower_bound(net.weights, pins, macros, left, rows))
 }

@@ -27,66 +27,36 @@ ghost use Rattle.answers.specs.Bought.{checked_tree};
 ghost use Rattle.router.specs.Call.{GraphCall, TerminalCall, RefinedCall, BothCall, SlidCall, WiresCall, DistancesCall};
 ghost use Rattle.router.specs.Call.{DelayCall, BestCall, BoundCall, WriteCall, ReadCall};
 
-use bought::Verdict;
-use checks::Checked;
-use delay::Delayed;
+use bought::Sums;
 use floats::Technology;
-use net::{Refusal, Weighing};
-use netfile::Written;
+use net::{Net, Refusal, Weighing};
 use plane::Place;
-use price::Priced;
+use results::Spanned;
 
-// The answer of a graph: how many vertices and how many edges were given.
+// A terminal tree: how many paths were given, and their total.
 #[derive(Clone, Copy)]
-pub enum Graphed {
-    Given(usize, usize),
-    Refused(Refusal),
+pub struct Terminal {
+    pub paths: usize,
+    pub total: i64,
 }
 
-// The answer of a terminal tree: how many paths were given, and their total.
+// A refined tree, a slid tree or a best tree: how many edges were given, their total, and the metal to lay.
 #[derive(Clone, Copy)]
-pub enum TerminalAnswer {
-    Given(usize, i64),
-    Refused(Refusal),
+pub struct Tree {
+    pub edges: usize,
+    pub total: i64,
+    pub metal: i64,
 }
 
-// The answer of a refined tree, of a slid tree and of a best tree: how many edges were given, their total, and the metal to lay.
+// Both trees: the refined tree, of which edges were given, and the terminal tree's total.
 #[derive(Clone, Copy)]
-pub enum TreeAnswer {
-    Given(usize, i64, i64),
-    Refused(Refusal),
-}
-
-// The answer of both trees: how many edges of the refined tree were given, the terminal tree's total, the refined tree's, and the metal.
-#[derive(Clone, Copy)]
-pub enum BothAnswer {
-    Given(usize, i64, i64, i64),
-    Refused(Refusal),
-}
-
-// The answer of wires: how many were given.
-#[derive(Clone, Copy)]
-pub enum Wired {
-    Given(usize),
-    Refused(Refusal),
-}
-
-// The answer of distances on the grid: how many numbers were given.
-#[derive(Clone, Copy)]
-pub enum DistanceAnswer {
-    Given(usize),
-    Refused(Refusal),
-}
-
-// The answer of a lower bound: the bound, in cost.
-#[derive(Clone, Copy)]
-pub enum BoundAnswer {
-    Given(u64),
-    Refused(Refusal),
+pub struct Both {
+    pub tree: Tree,
+    pub terminal: i64,
 }
 
 // Check a net: allowed, with its numbers of pins and macros, or the first of the refusals 11 to 18 that applies.
-pub fn check(w: Weighing, pins: &[i32], macros: &[i32]) -> Checked
+pub fn check(w: Weighing, pins: &[i32], macros: &[i32]) -> Result<Net, Refusal>
     ensures { told result ≡ checked w pins.now macros.now }
 {
     checks::check(w, pins, macros)
@@ -100,76 +70,78 @@ pub fn graph(
     macros: &[i32],
     vertices: &mut [i32],
     edges: &mut [i32],
-) -> Graphed
+) -> Result<Spanned, Refusal>
     ensures { GraphCall graphed w pins.now macros.now vertices.old edges.old result
         vertices.new edges.new }
 {
-    let answer = checks::check(w, pins, macros);
-    match answer {
-        Checked::Allowed(net) => allowed::graph(net, pins, macros, &mut *vertices, &mut *edges),
-        Checked::Refused(refusal) => Graphed::Refused(refusal),
-    }
+    let net = checks::check(w, pins, macros)?;
+    allowed::graph(net, pins, macros, vertices, edges)
 }
 
 // Terminal tree: each kept path's bridge and length in the order kept, how many there are and their total, or 11 to 18, then 21 where
 // fewer than 5m numbers are lent. That no joining is shorter and no chain has a lower longest path: `Promised`.
-pub fn terminal_tree(w: Weighing, pins: &[i32], macros: &[i32], paths: &mut [i64]) -> TerminalAnswer
+pub fn terminal_tree(
+    w: Weighing,
+    pins: &[i32],
+    macros: &[i32],
+    paths: &mut [i64],
+) -> Result<Terminal, Refusal>
     ensures { TerminalCall terminal_tree w pins.now macros.now paths.old result paths.new }
 {
-    let answer = checks::check(w, pins, macros);
-    match answer {
-        Checked::Allowed(net) => allowed::terminal_tree(net, pins, macros, &mut *paths),
-        Checked::Refused(refusal) => TerminalAnswer::Refused(refusal),
-    }
+    let net = checks::check(w, pins, macros)?;
+    allowed::terminal_tree(net, pins, macros, paths)
 }
 
 // Refined tree: its edges in order, how many there are, their total and the metal to lay, or 11 to 18, then 21 where fewer than 4(n + m)
 // numbers are lent. That they hold all pins as one tree, enter no interior and cost no more than the terminal tree: `Promised`.
-pub fn refined_tree(w: Weighing, pins: &[i32], macros: &[i32], edges: &mut [i32]) -> TreeAnswer
+pub fn refined_tree(
+    w: Weighing,
+    pins: &[i32],
+    macros: &[i32],
+    edges: &mut [i32],
+) -> Result<Tree, Refusal>
     ensures { RefinedCall refined_tree w pins.now macros.now edges.old result edges.new }
 {
-    let answer = both_trees(w, pins, macros, &mut *edges);
-    match answer {
-        BothAnswer::Given(count, _, total, metal) => TreeAnswer::Given(count, total, metal),
-        BothAnswer::Refused(refusal) => TreeAnswer::Refused(refusal),
-    }
+    let both = both_trees(w, pins, macros, edges)?;
+    Ok(both.tree)
 }
 
 // Both trees, from one graph: what the refined tree gives, and with it the terminal tree's total, or 11 to 18, then 21 as for the refined
 // tree.
-pub fn both_trees(w: Weighing, pins: &[i32], macros: &[i32], edges: &mut [i32]) -> BothAnswer
+pub fn both_trees(
+    w: Weighing,
+    pins: &[i32],
+    macros: &[i32],
+    edges: &mut [i32],
+) -> Result<Both, Refusal>
     ensures { BothCall both_trees w pins.now macros.now edges.old result edges.new }
 {
-    let answer = checks::check(w, pins, macros);
-    match answer {
-        Checked::Allowed(net) => allowed::both_trees(net, pins, macros, &mut *edges),
-        Checked::Refused(refusal) => BothAnswer::Refused(refusal),
-    }
+    let net = checks::check(w, pins, macros)?;
+    allowed::both_trees(net, pins, macros, edges)
 }
 
 // Slid tree: the refined tree's edges made straight, bars of them moved where that saves: its edges in order, how many there are, their
 // total and the metal to lay, or 11 to 18, then 21 where fewer than 8(n + m) numbers are lent. That they hold all pins as one tree, enter
 // no interior, are along one axis unless the refined tree is given back, and cost no more than it: `PromisedSlid` (specs/Slid.antt).
-pub fn slid_tree(w: Weighing, pins: &[i32], macros: &[i32], edges: &mut [i32]) -> TreeAnswer
+pub fn slid_tree(
+    w: Weighing,
+    pins: &[i32],
+    macros: &[i32],
+    edges: &mut [i32],
+) -> Result<Tree, Refusal>
     ensures { SlidCall slid_tree w pins.now macros.now edges.old result edges.new }
 {
-    let answer = checks::check(w, pins, macros);
-    match answer {
-        Checked::Allowed(net) => allowed::slid_tree(net, pins, macros, &mut *edges),
-        Checked::Refused(refusal) => TreeAnswer::Refused(refusal),
-    }
+    let net = checks::check(w, pins, macros)?;
+    allowed::slid_tree(net, pins, macros, edges)
 }
 
 // Wires: those of the refined tree's edges, in order, and how many there are, or 11 to 18, then 21 where fewer than 8(n + m) numbers are
 // lent. That each is along one axis, in its edge's box and clear: `Promised`.
-pub fn wires(w: Weighing, pins: &[i32], macros: &[i32], wires: &mut [i32]) -> Wired
+pub fn wires(w: Weighing, pins: &[i32], macros: &[i32], wires: &mut [i32]) -> Result<usize, Refusal>
     ensures { WiresCall wired w pins.now macros.now wires.old result wires.new }
 {
-    let answer = checks::check(w, pins, macros);
-    match answer {
-        Checked::Allowed(net) => allowed::wires(net, pins, macros, &mut *wires),
-        Checked::Refused(refusal) => Wired::Refused(refusal),
-    }
+    let net = checks::check(w, pins, macros)?;
+    allowed::wires(net, pins, macros, wires)
 }
 
 // Distances on the grid: the cheapest cost along the grid between every two pins, row by row in the order of places, and how many numbers
@@ -180,14 +152,11 @@ pub fn grid_distances(
     pins: &[i32],
     macros: &[i32],
     table: &mut [i64],
-) -> DistanceAnswer
+) -> Result<usize, Refusal>
     ensures { DistancesCall grid_distances w pins.now macros.now table.old result table.new }
 {
-    let answer = checks::check(w, pins, macros);
-    match answer {
-        Checked::Allowed(net) => allowed::grid_distances(net, pins, macros, &mut *table),
-        Checked::Refused(refusal) => DistanceAnswer::Refused(refusal),
-    }
+    let net = checks::check(w, pins, macros)?;
+    allowed::grid_distances(net, pins, macros, table)
 }
 
 // Delay: the Elmore delay of the refined tree from a driver to each pin, in the order of places, and how many there are, or 11 to 18, then
@@ -201,15 +170,12 @@ pub fn delay(
     driver: Place,
     t: Technology,
     delays: &mut [f64],
-) -> Delayed
+) -> Result<usize, Refusal>
     ensures { DelayCall pin_delays w pins.now macros.now driver t delays.old result
         delays.new }
 {
-    let answer = checks::check(w, pins, macros);
-    match answer {
-        Checked::Allowed(net) => allowed::delay(net, pins, macros, driver, t, &mut *delays),
-        Checked::Refused(refusal) => Delayed::Refused(refusal),
-    }
+    let net = checks::check(w, pins, macros)?;
+    allowed::delay(net, pins, macros, driver, t, delays)
 }
 
 // Best tree: of up to five pins and sixteen macros, the edges in order of a tree along the grid, how many there are, their total and the
@@ -224,15 +190,12 @@ pub fn best_tree(
     macros: &[i32],
     work: &mut [u32],
     edges: &mut [i32],
-) -> TreeAnswer
+) -> Result<Tree, Refusal>
     ensures { BestCall best_tree w pins.now macros.now work.old edges.old result
         work.new edges.new }
 {
-    let answer = checks::check(w, pins, macros);
-    match answer {
-        Checked::Allowed(net) => allowed::best_tree(net, pins, macros, &mut *work, &mut *edges),
-        Checked::Refused(refusal) => TreeAnswer::Refused(refusal),
-    }
+    let net = checks::check(w, pins, macros)?;
+    allowed::best_tree(net, pins, macros, work, edges)
 }
 
 // Lower bound: a number that no metal clear of the macros costs less than if it joins all pins, or 11 to 18, then 21 where fewer than
@@ -246,54 +209,50 @@ pub fn lower_bound(
     macros: &[i32],
     left: &mut [u32],
     rows: &mut [u64],
-) -> BoundAnswer
+) -> Result<u64, Refusal>
     ensures { BoundCall lower_bound w pins.now macros.now left.old rows.old result
         left.new rows.new }
 {
-    let answer = checks::check(w, pins, macros);
-    match answer {
-        Checked::Allowed(net) => allowed::lower_bound(net, pins, macros, &mut *left, &mut *rows),
-        Checked::Refused(refusal) => BoundAnswer::Refused(refusal),
-    }
+    let net = checks::check(w, pins, macros)?;
+    allowed::lower_bound(net, pins, macros, left, rows)
 }
 
 // Price: what a bureau charges for the metal to lay, in hundredths of the currency, or 11 to 18, then 31, 37 and 32 for the bands: two
 // numbers each, the most metal that the band reaches and its rate per 1,000 units. Metal is the refined tree's plain length (R22). That
 // more metal is never charged less by one list: `NeverLess` (specs/Price.antt).
-pub fn price(w: Weighing, pins: &[i32], macros: &[i32], bands: &[u64]) -> Priced
+pub fn price(w: Weighing, pins: &[i32], macros: &[i32], bands: &[u64]) -> Result<u64, Refusal>
     ensures { told_price result ≡ net_price w pins.now macros.now bands.now }
 {
-    let answer = checks::check(w, pins, macros);
-    match answer {
-        Checked::Allowed(net) => results::price(net, pins, macros, bands),
-        Checked::Refused(refusal) => Priced::Refused(refusal),
-    }
+    let net = checks::check(w, pins, macros)?;
+    results::price(net, pins, macros, bands)
 }
 
 // Check a bought-in tree: what its edges, four numbers each, cost and their metal, or 11 to 18, then 33, 34 and 35, each over the whole
 // list. Which lists pass, that the order of the edges and of their ends does not matter, and that every refined tree and every slid tree
 // passes: `PromisedCheck` (specs/Bought.antt).
-pub fn check_tree(w: Weighing, pins: &[i32], macros: &[i32], edges: &[i32]) -> Verdict
+pub fn check_tree(w: Weighing, pins: &[i32], macros: &[i32], edges: &[i32]) -> Result<Sums, Refusal>
     ensures { told_verdict result ≡ checked_tree w pins.now macros.now edges.now }
 {
-    let answer = checks::check(w, pins, macros);
-    match answer {
-        Checked::Allowed(net) => bought::check_tree(net.weights, pins, macros, edges),
-        Checked::Refused(refusal) => Verdict::Refused(refusal),
-    }
+    let net = checks::check(w, pins, macros)?;
+    bought::check_tree(net.weights, pins, macros, edges)
 }
 
 // Write a net file: its number of bytes, or 11 to 18, then 21 where fewer bytes are lent than the file has.
-pub fn write_file(w: Weighing, pins: &[i32], macros: &[i32], bytes: &mut [u8]) -> Written
+pub fn write_file(
+    w: Weighing,
+    pins: &[i32],
+    macros: &[i32],
+    bytes: &mut [u8],
+) -> Result<usize, Refusal>
     ensures { WriteCall w pins.now macros.now bytes.old result bytes.new }
 {
-    netfile::write(w, pins, macros, &mut *bytes)
+    netfile::write(w, pins, macros, bytes)
 }
 
 // Read a net file: its numbers of pins and macros and its weights, or 21 where less than the largest net is lent, 1 to 3 for the file, 11
 // to 17 for its lists.
-pub fn read_file(bytes: &[u8], pins: &mut [i32], macros: &mut [i32]) -> Checked
+pub fn read_file(bytes: &[u8], pins: &mut [i32], macros: &mut [i32]) -> Result<Net, Refusal>
     ensures { ReadCall bytes.now pins.old macros.old result pins.new macros.new }
 {
-    netfile::read(bytes, &mut *pins, &mut *macros)
+    netfile::read(bytes, pins, macros)
 }

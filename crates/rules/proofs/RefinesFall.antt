@@ -65,12 +65,12 @@ module _ {net : Net} {G : List Edge} {g : Ground} (charts : Charts net G g) wher
   rounds-fall zero t ready T U h r = tt
   rounds-fall (suc m) t ready T U h (inl r) = tt
   rounds-fall (suc m) t ready T U h (inr (X, (r, more))) =
-      by (eqb (choice_in net g t).gain 0)
+      by (eqb (choice_in net g t).best.gain 0)
       (λ q.
       absurd (no-gain charts m t ready (eqb-true _ _ q) r.k r.a r.b r.u r.v r.qs r.l r.g
       (gain-same (same_turn h) r.takes.taken)))
       (λ q.
-      let some : (choice_in net g t).gain ≡ 0 → ⊥ = eqb-false _ _ q in
+      let some : (choice_in net g t).best.gain ≡ 0 → ⊥ = eqb-false _ _ q in
       let law = charts-lawful charts t ready.sound in
       let cuts = tree-cuts place_same ready.sound.whole in
       let mine = some-gain charts m t ready some in

@@ -37,46 +37,46 @@ module _ {net : Net} {G : List Edge} {g : Ground} (charts : Charts net G g) wher
   next_in t = exchange_in g t (chosen_in net.weights net.macros g t)
 
   module _ (m : ℕ) (t : Tree) (ready : Ready net g t (suc m)) where
-    both-less : ((on net g t m ready).gain ≤ (either (on net g t m ready) (off net g t m ready)).gain)
-        × ((off net g t m ready).gain ≤ (either (on net g t m ready) (off net g t m ready)).gain)
+    both-less : ((on net g t m ready).gain ≤ (either (on net g t m ready) (off net g t m ready)).best.gain)
+        × ((off net g t m ready).gain ≤ (either (on net g t m ready) (off net g t m ready)).best.gain)
     unfolding either
     both-less =
         by (ltb (on net g t m ready).gain (off net g t m ready).gain)
         (λ b. let h = ltb-true (on net g t m ready).gain (off net g t m ready).gain b in rw (either, b) (omega arith, omega arith))
         (λ b. let h = ltb-false (on net g t m ready).gain (off net g t m ready).gain b in rw (either, b) (omega arith, omega arith))
 
-    chosen-most : ((on net g t m ready).gain ≤ (choice_in net g t).gain) × ((off net g t m ready).gain ≤ (choice_in net g t).gain)
+    chosen-most : ((on net g t m ready).gain ≤ (choice_in net g t).best.gain) × ((off net g t m ready).gain ≤ (choice_in net g t).best.gain)
     unfolding chosen_in chosen_of
     chosen-most = both-less
 
     -- the tables find no gain where there is none
-    pub no-gain : (choice_in net g t).gain ≡ 0 → NoGain net G (edges_in t)
+    pub no-gain : (choice_in net g t).best.gain ≡ 0 → NoGain net G (edges_in t)
     no-gain q false a b u v qs l h x =
         let z : ⊥ = omega (arith, q, chosen-most.0, on-most charts t m ready a b u v qs l h x, x.above) in z
     no-gain q true a b u v qs l h x =
         let z : ⊥ = omega (arith, q, chosen-most.1, off-most charts t m ready a b u v qs l h x, x.above) in z
 
-    either-round : ((either (on net g t m ready) (off net g t m ready)).gain ≡ 0 → ⊥) →
+    either-round : ((either (on net g t m ready) (off net g t m ready)).best.gain ≡ 0 → ⊥) →
         Gained net G (edges_in t) (edges_in (exchange_in g t (either (on net g t m ready) (off net g t m ready))))
-        (either (on net g t m ready) (off net g t m ready)).gain
+        (either (on net g t m ready) (off net g t m ready)).best.gain
     unfolding either exchange_in exchange_with
     either-round =
         by (ltb (on net g t m ready).gain (off net g t m ready).gain)
         (λ b. rw (either, b) (λ h. round-off charts t m ready (ltb-true _ _ b)))
         (λ b. rw (either, b) (λ h. round-on charts t m ready (omega (arith, h)) (ltb-false _ _ b)))
 
-    chosen-round : ((choice_in net g t).gain ≡ 0 → ⊥) → Gained net G (edges_in t) (edges_in (next_in t)) (choice_in net g t).gain
+    chosen-round : ((choice_in net g t).best.gain ≡ 0 → ⊥) → Gained net G (edges_in t) (edges_in (next_in t)) (choice_in net g t).best.gain
     unfolding chosen_in chosen_of
     chosen-round h = either-round h
 
-    pub some-gain : ((choice_in net g t).gain ≡ 0 → ⊥) → Round net G (edges_in t) (edges_in (next_in t))
+    pub some-gain : ((choice_in net g t).best.gain ≡ 0 → ⊥) → Round net G (edges_in t) (edges_in (next_in t))
     some-gain h = (chosen-round h).0
 
-    pub mine-gain : (h : (choice_in net g t).gain ≡ 0 → ⊥) → (some-gain h).g ≡ (choice_in net g t).gain
+    pub mine-gain : (h : (choice_in net g t).best.gain ≡ 0 → ⊥) → (some-gain h).g ≡ (choice_in net g t).best.gain
     unfolding some-gain
     mine-gain h = (chosen-round h).1
 
-    pub ready-next : ((choice_in net g t).gain ≡ 0 → ⊥) → Ready net g (next_in t) m
+    pub ready-next : ((choice_in net g t).best.gain ≡ 0 → ⊥) → Ready net g (next_in t) m
     ready-next h = (round-onward net g t m ready h).ready
 
   -- Rounds
@@ -86,13 +86,13 @@ module _ {net : Net} {G : List Edge} {g : Ground} (charts : Charts net G g) wher
   unfolding rounds_in
   rounds-ours zero t ready = (λ e i. i, λ e i. i)
   rounds-ours (suc m) t ready =
-      by (eqb (choice_in net g t).gain 0)
+      by (eqb (choice_in net g t).best.gain 0)
       (λ q.
-      let none : (choice_in net g t).gain ≡ 0 = eqb-true _ _ q in
+      let none : (choice_in net g t).best.gain ≡ 0 = eqb-true _ _ q in
       subst (λ (z : Tree). Rounds net G (suc m) (edges_in t) (edges_in z)) (sym (rounds-none net g (suc m) t none))
       (inl (no-gain m t ready none, (λ e i. i, λ e i. i))))
       (λ q.
-      let some : (choice_in net g t).gain ≡ 0 → ⊥ = eqb-false _ _ q in
+      let some : (choice_in net g t).best.gain ≡ 0 → ⊥ = eqb-false _ _ q in
       subst (λ (z : Tree). Rounds net G (suc m) (edges_in t) (edges_in z)) (sym (rounds-some net g m t some))
       (inr (edges_in (next_in t), (some-gain m t ready some, rounds-ours m (next_in t) (ready-next m t ready some)))))
 
@@ -101,12 +101,12 @@ module _ {net : Net} {G : List Edge} {g : Ground} (charts : Charts net G g) wher
   unfolding rounds_in
   rounds-only zero t ready T U h r = same_then h r
   rounds-only (suc m) t ready T U h r =
-      by (eqb (choice_in net g t).gain 0)
+      by (eqb (choice_in net g t).best.gain 0)
       (λ q.
-      let none : (choice_in net g t).gain ≡ 0 = eqb-true _ _ q in
+      let none : (choice_in net g t).best.gain ≡ 0 = eqb-true _ _ q in
       subst (λ (z : Tree). Same (edges_in z) U) (sym (rounds-none net g (suc m) t none)) (still (no-gain m t ready none) r))
       (λ q.
-      let some : (choice_in net g t).gain ≡ 0 → ⊥ = eqb-false _ _ q in
+      let some : (choice_in net g t).best.gain ≡ 0 → ⊥ = eqb-false _ _ q in
       subst (λ (z : Tree). Same (edges_in z) U) (sym (rounds-some net g m t some)) (moves some
       (λ X. rounds-only m (next_in t) (ready-next m t ready some) X U) r))
     where
@@ -115,7 +115,7 @@ module _ {net : Net} {G : List Edge} {g : Ground} (charts : Charts net G g) wher
       still none (inr (X, (s, more))) =
           absurd (none s.k s.a s.b s.u s.v s.qs s.l s.g (gain-same (same_turn h) s.takes.taken))
 
-      moves : ((choice_in net g t).gain ≡ 0 → ⊥) →
+      moves : ((choice_in net g t).best.gain ≡ 0 → ⊥) →
           ((X : List Edge) → Same (edges_in (next_in t)) X → Rounds net G m X U →
           Same (edges_in (rounds_in net.weights net.macros g m (next_in t))) U) →
           Rounds net G (suc m) T U → Same (edges_in (rounds_in net.weights net.macros g m (next_in t))) U

@@ -59,12 +59,12 @@ module _ {net : Net} {G : List Edge} {g : Ground} (charts : Charts net G g) wher
   rounds-trees (suc m) t ready T U h (inl r) = one-tree-same net.pins h (sound-tree t ready.sound)
   rounds-trees (suc m) t ready T U h (inr (X, (r, more))) = (
     one-tree-same net.pins h (sound-tree t ready.sound),
-    by (eqb (choice_in net g t).gain 0)
+    by (eqb (choice_in net g t).best.gain 0)
         (λ q.
         absurd (no-gain charts m t ready (eqb-true _ _ q) r.k r.a r.b r.u r.v r.qs r.l r.g
         (gain-same (same_turn h) r.takes.taken)))
         (λ q.
-        let some : (choice_in net g t).gain ≡ 0 → ⊥ = eqb-false _ _ q in
+        let some : (choice_in net g t).best.gain ≡ 0 → ⊥ = eqb-false _ _ q in
         rounds-trees m (next_in charts t) (ready-next charts m t ready some) X U
         (round-only (charts-lawful charts t ready.sound) (tree-cuts place_same ready.sound.whole) h
         (some-gain charts m t ready some) r)

@@ -23,7 +23,7 @@ use Rattle.net.specs.Net.{Net, cost_in}
 use Rattle.graph.specs.Spanning.{vertices_of, spanning}
 use Rattle.picks.specs.declared.Quadrant as code
 use Rattle.picks.specs.declared.Quadrant.TheVariants.{First, Second, Third, Fourth}
-use Rattle.picks.specs.declared.Picked.TheVariants.{At}
+use Rattle.std.specs.Prelude.{Some}
 use Rattle.picks.specs.Pick.{within}
 use Rattle.graph.specs.Vertices.{corners_of}
 use Rattle.graph.specs.Edges.{before_edge, edges as our_edges}
@@ -160,7 +160,7 @@ module _ (net : Net) (vs : List Place) (ascending : Ascending before vs) where
       record {
         stands = i;
         quadrant = coded q;
-        picks = pick-only net.weights net.macros (coded q) u vs ascending (At v) (record {
+        picks = pick-only net.weights net.macros (coded q) u vs ascending (Some v) (record {
           stands = p.may.vertex;
           fit = may-fit q u v p.may;
           least =

@@ -2,14 +2,13 @@
 -- Assumes nothing.
 use mathlib.Core.Path.{◌≡◌, refl, sym, ap, ap₂, ◌∙◌}
 use mathlib.Core.Bool.{Bool, true, false}
-use mathlib.Core.List.{List, [], ◌∷◌, ◌++◌, map, append-nil, append_assoc}
+use mathlib.Core.List.{List, [], ◌∷◌, ◌++◌, append-nil}
 use Prim.Native.Nat.{ℕ, ◌+◌, ◌-◌, ◌*◌, ◌≤◌, ◌<◌}
 use native.Mathlib.Omega.{arith}
 use lib.IntN.{ℤ}
 use lib.ListN.{length, get_or, length-append}
 use lib.Seq.{sets, append_snoc}
 use Rattle.lists.specs.Those.{those}
-use Rattle.lists.proofs.TestLaws.{by}
 use Rattle.lists.proofs.ThoseLaws.{those-hit, those-miss, those-none}
 use Rattle.lent.specs.Over.{over}
 use Rattle.lent.specs.Entries.{flat}

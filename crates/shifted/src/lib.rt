@@ -29,10 +29,10 @@ fn shifted_point(pts: &[i32; NUMBERS], lab: &[usize; POINTS], m: Shift, i: usize
 {
     let p = straight::point_at(pts, i);
     if lab[i] == m.label {
-        let s = m.side;
-        return place::moved(s, m.distance, p);
+        place::moved(m.side, m.distance, p)
+    } else {
+        p
     }
-    p
 }
 
 // The edge of a and b as the next of the list, unless they are one place.
@@ -41,10 +41,11 @@ fn put_proper(out: &mut [i32], count: usize, a: Place, b: Place) -> usize
     ensures { PutIf (proper (a, b)) (a, b) out.old count out.new result }
 {
     if plane::is_same_place(a, b) {
-        return count;
+        count
+    } else {
+        put_edge(out, count, a, b);
+        count + 1
     }
-    put_edge(&mut *out, count, a, b);
-    count + 1
 }
 
 // Edge k after the move, as the next of the list.
@@ -66,7 +67,7 @@ fn put_shifted(
 {
     let a = shifted_point(pts, lab, m, straight::first_end(keys, k));
     let b = shifted_point(pts, lab, m, straight::second_end(keys, k));
-    put_proper(&mut *out, count, a, b)
+    put_proper(out, count, a, b)
 }
 
 // The first e edges after the move: those whose ends became one go. How many are left.
@@ -84,10 +85,8 @@ pub fn shift_edges(
     ensures { (edges_of out.new result ≡ shifted m pts.now lab.now keys.now e) × (result ≤ e) }
 {
     let mut count = 0;
-    let mut k = 0;
-    while k < e {
-        count = put_shifted(pts, keys, lab, m, k, &mut *out, count);
-        k += 1;
+    for k in 0..e {
+        count = put_shifted(pts, keys, lab, m, k, out, count);
     }
     count
 }

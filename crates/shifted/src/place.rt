@@ -29,20 +29,20 @@ pub fn moved(s: Side, d: u64, p: Place) -> Place
 {
     match s {
         Side::Above => Place {
-            x: p.x,
             y: raised(p.y, d),
+            ..p
         },
         Side::Below => Place {
-            x: p.x,
             y: lowered(p.y, d),
+            ..p
         },
         Side::Right => Place {
             x: raised(p.x, d),
-            y: p.y,
+            ..p
         },
         Side::Left => Place {
             x: lowered(p.x, d),
-            y: p.y,
+            ..p
         },
     }
 }

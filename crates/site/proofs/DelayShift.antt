@@ -19,7 +19,7 @@ use Rattle.plane.specs.Place.{before, same_place}
 use Rattle.plane.specs.Distance.{distance}
 use Rattle.rules.specs.Edges.{Edge}
 use Rattle.floats.specs.declared.Technology.{Technology}
-use Rattle.floats.specs.declared.Delay.{Delay}
+use Rattle.floats.specs.Mark.{Delay}
 use Rattle.floats.specs.Float as float
 use Rattle.elmore.specs.Rooted.{Branches, renamed, Every, none, branch, sprout, neighbours, children, hanging, rooted}
 use Rattle.elmore.specs.Elmore.{delays, delay_in}

@@ -2,14 +2,13 @@
 -- four sides here and nowhere else.
 -- Assumes nothing.
 use mathlib.Core.Path.{◌≡◌, refl, sym, ap, ap₂, ◌∙◌}
-use mathlib.Core.Bool.{true, false, ◌||◌}
+use mathlib.Core.Bool.{true}
 use mathlib.Core.Logic.{◌⊎◌, inl, inr}
 use Prim.Native.Nat.{ℕ, ◌+◌, ◌*◌}
 use native.Mathlib.Omega.{arith}
 use native.Mathlib.Nat.{mul_comm}
 use lib.IntN.{ℤ, pos, ◌+ℤ◌, ◌-ℤ◌}
-use lib.Signed.{le_z, lt_z}
-use Rattle.lists.proofs.TestLaws.{by, differ, either}
+use Rattle.lists.proofs.TestLaws.{by, either}
 use Rattle.signed.specs.Sides.{up, down, Lt, Le}
 use Rattle.signed.specs.Order.{z_eq}
 use Rattle.signed.proofs.SideLaws.{add-sides, sub-sides, up_pos, down_pos, eq_of, signed}
@@ -25,7 +24,7 @@ use Rattle.net.specs.Net.{Net, cost_in}
 use Rattle.slide.specs.declared.Side.{Side}
 use Rattle.slide.specs.declared.Side.TheVariants.{Above, Below, Right, Left}
 use Rattle.slide.specs.Side.{along, across, moved, weight, weight_along}
-use Rattle.slide.specs.Bend.{Edge, straight}
+use Rattle.slide.specs.Bend.{straight}
 use Rattle.slide.specs.Bar.{level}
 
 -- Numbers

@@ -1,48 +1,44 @@
 -- The points that level edges join with a point of a level edge are a bar; and a distance that passes the test is allowed for it.
 -- Assumes nothing.
-use mathlib.Core.Path.{◌≡◌, refl, sym, ap, ap₂, ◌∙◌}
+use mathlib.Core.Path.{◌≡◌, refl, sym, ap, ◌∙◌}
 use mathlib.Core.Bool.{Bool, true, false, not, ◌&&◌, ◌||◌}
 use mathlib.Core.Logic.{◌⊎◌, inl, inr}
 use mathlib.Core.List.Memᴰ
-use mathlib.Core.List.{List, [], ◌∷◌, map}
-use Prim.Native.Nat.{ℕ, zero, suc, ◌+◌, ◌≤◌, min}
+use mathlib.Core.List.{List, [], ◌∷◌}
+use Prim.Native.Nat.{ℕ, zero, suc, ◌+◌, ◌≤◌}
 use native.Mathlib.Omega.{arith}
 use borrow.Author.Tests.{eqb-true, eqb-false}
 use lib.Dec.{eqb}
 use lib.IntN.{ℤ}
 use lib.Signed.{lt_z, le_z}
 use Rattle.lists.specs.Any.{any}
-use Rattle.lists.specs.Member.{◌∈◌, here, there, Among}
+use Rattle.lists.specs.Member.{◌∈◌, here, there}
 use Rattle.lists.specs.Those.{those}
-use Rattle.lists.specs.Sorted.{Order}
 use Rattle.lists.proofs.TestLaws.{by, differ, either, not-true, and_left, and_right, and_both}
 use Rattle.lists.proofs.AnyLaws.{any_none}
 use Rattle.lists.proofs.MapLaws.{in_map, of_map}
 use Rattle.lists.proofs.ThoseLaws.{in-those, of-those}
 use Rattle.signed.specs.Sides.{up, down, Lt, Le}
 use Rattle.signed.specs.Order.{z_min, z_max}
-use Rattle.signed.proofs.SideLaws.{z_lt-true, z_lt-false, lt-z_lt, le-z_le, eq_of, signed}
+use Rattle.signed.proofs.SideLaws.{z_lt-true, z_lt-false, lt-z_lt, le-z_le, signed}
 use Rattle.signed.proofs.OrderLaws.{min-sides, max-sides, min_self, max_self}
 use Rattle.plane.specs.declared.Place.{Place}
-use Rattle.plane.specs.declared.Macro.{Macro}
 use Rattle.plane.specs.Place.{before, same_place}
-use Rattle.plane.specs.Distance.{apart}
 use Rattle.plane.specs.Macro.{clear}
 use Rattle.plane.specs.Box.{Between, InBox}
 use Rattle.plane.proofs.DistanceLaws.{apart-ordered, apart-comm}
 use Rattle.plane.proofs.PlaceLaws.{same_true}
 use Rattle.plane.proofs.PlaceOrder.{place-order}
 use Rattle.joined.specs.Joined.{Link, Joined, Inside}
-use Rattle.joined.specs.Labels.{equal, labels, Labels}
+use Rattle.joined.specs.Labels.{equal, labels}
 use Rattle.joined.proofs.JoinedLaws.{constant, joined-inside}
 use Rattle.joined.proofs.LabelLaws.{equal-true, labelled, same-joined}
 use Rattle.net.specs.Net.{Net}
 use Rattle.slide.specs.declared.Side.{Side}
 use Rattle.slide.specs.Side.{along, across, moved}
-use Rattle.slide.specs.Bend.{Edge, straight, taken}
+use Rattle.slide.specs.Bend.{Edge, taken}
 use Rattle.slide.specs.Bar.{same, level, on_bar, ahead, far, long, least, shortest, far_ends, first_of, last_of}
 use Rattle.slide.specs.Sweep.{low_corner, high_corner, boxes_meet, first_place, last_place, swept, point_bars, edge_bars, allowed, greatest}
-use Rattle.slide.specs.Sweep.{reach}
 use Rattle.slide.specs.Bars.{IsBar, FarEnd, Allowed}
 use Rattle.slide.specs.Promise.{Straight}
 use Rattle.slide.proofs.AcrossLaws.{along-moved, in-box, upright-or-level, level-true, true-level, before-along}

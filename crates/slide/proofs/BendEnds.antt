@@ -1,11 +1,10 @@
 -- Bends leave pins at all loose ends: a bend has the two ends of its edge, and any other point has the bend in place of an end.
 -- Assumes nothing.
 use mathlib.Core.Path.{◌≡◌, refl, sym, ap, ◌∙◌, subst}
-use mathlib.Core.Bool.{Bool, true, false}
+use mathlib.Core.Bool.{false}
 use mathlib.Core.Logic.{◌⊎◌, inl, inr}
 use mathlib.Core.List.Memᴰ
 use mathlib.Core.List.{List, [], ◌∷◌, ◌++◌}
-use Prim.Native.Nat.{ℕ}
 use Rattle.lists.specs.Member.{◌∈◌, here, there, Among}
 use Rattle.lists.proofs.TestLaws.{by, differ, either}
 use Rattle.plane.specs.declared.Place.{Place}

@@ -1,23 +1,21 @@
 -- Bends keep a tree one tree, clear, and its cost, and every edge is then axis-parallel. Bends and edges grow by one each; the ends of an
 -- edge are joined through its bend; and the bend lies in the box of the edge.
 -- Assumes nothing.
-use mathlib.Core.Path.{◌≡◌, refl, sym, ap, ◌∙◌}
-use mathlib.Core.Bool.{Bool, true, false, not, ◌||◌}
+use mathlib.Core.Path.{◌≡◌, refl, ◌∙◌}
+use mathlib.Core.Bool.{Bool, true, false, ◌||◌}
 use mathlib.Core.Logic.{◌⊎◌, inl, inr}
 use mathlib.Core.List.Memᴰ
 use mathlib.Core.List.{List, [], ◌∷◌}
-use Prim.Native.Nat.{ℕ, suc, ◌+◌, ◌≤◌}
+use Prim.Native.Nat.{◌+◌, ◌≤◌}
 use native.Mathlib.Omega.{arith}
 use lib.ListN.{length}
-use Rattle.lists.specs.Any.{any}
 use Rattle.lists.specs.Member.{◌∈◌, here, there, Among, Once}
 use Rattle.lists.specs.Total.{total}
 use Rattle.lists.proofs.TestLaws.{by, differ, either}
 use Rattle.lists.proofs.AnyLaws.{any_none}
 use Rattle.signed.specs.Order.{z_eq}
-use Rattle.signed.proofs.OrderLaws.{z_eq-refl, z_eq-true, z_eq-comm}
+use Rattle.signed.proofs.OrderLaws.{z_eq-refl, z_eq-comm}
 use Rattle.plane.specs.declared.Place.{Place}
-use Rattle.plane.specs.declared.Macro.{Macro}
 use Rattle.plane.specs.Place.{before, same_place}
 use Rattle.plane.specs.Macro.{clear}
 use Rattle.plane.specs.Box.{InBox}

@@ -1,28 +1,26 @@
 -- Each edge with an end on the bar is an edge of the bar or hangs from it, on one side or the other; and what a shift makes of each kind.
 -- Assumes nothing.
-use mathlib.Core.Path.{◌≡◌, refl, sym, ap, ◌∙◌}
-use mathlib.Core.Bool.{Bool, true, false, not, ◌&&◌, ◌||◌}
+use mathlib.Core.Path.{◌≡◌, refl, sym, ◌∙◌}
+use mathlib.Core.Bool.{Bool, true, false, ◌||◌}
 use mathlib.Core.Logic.{◌⊎◌, inl, inr}
 use mathlib.Core.List.{List}
-use Prim.Native.Nat.{ℕ, ◌+◌, ◌*◌, ◌≤◌}
+use Prim.Native.Nat.{ℕ}
 use lib.Signed.{lt_z}
 use Rattle.lists.specs.Member.{◌∈◌}
 use Rattle.lists.proofs.TestLaws.{by, differ, either}
-use Rattle.signed.specs.Sides.{up, down, Lt, Le}
-use Rattle.signed.proofs.SideLaws.{z_lt-true, z_lt-false, lt-z_lt, le-z_lt, eq_of, signed}
+use Rattle.signed.specs.Sides.{Lt}
+use Rattle.signed.proofs.SideLaws.{z_lt-true, z_lt-false, eq_of, signed}
 use Rattle.plane.specs.declared.Place.{Place}
-use Rattle.plane.specs.declared.Macro.{Macro}
-use Rattle.plane.specs.Macro.{clear}
 use Rattle.joined.specs.Joined.{Link}
 use Rattle.net.specs.Net.{Net}
 use Rattle.slide.specs.declared.Side.{Side}
 use Rattle.slide.specs.Side.{along, across, moved}
 use Rattle.slide.specs.Bend.{Edge, straight}
-use Rattle.slide.specs.Bar.{level, of_bar, hangs, ahead, behind}
+use Rattle.slide.specs.Bar.{level, of_bar, hangs}
 use Rattle.slide.specs.Slide.{shift}
 use Rattle.slide.specs.Bars.{IsBar}
 use Rattle.slide.proofs.BendLaws.{straight-comm}
-use Rattle.slide.proofs.AcrossLaws.{upright-or-level, true-level, level-true, one_place}
+use Rattle.slide.proofs.AcrossLaws.{upright-or-level, true-level, level-true}
 
 module _ (s : Side) (on : Place → Bool) (d : ℕ) where
   pub shift-on : (p : Place) → on p ≡ true → shift s on d p ≡ moved s d p

@@ -7,12 +7,11 @@ use mathlib.Core.Logic.{◌⊎◌, inl, inr}
 use mathlib.Core.List.Memᴰ
 use mathlib.Core.List.{List}
 use Prim.Native.Nat.{ℕ}
-use Rattle.lists.specs.Member.{◌∈◌, Among, rest}
+use Rattle.lists.specs.Member.{◌∈◌}
 use Rattle.lists.proofs.TestLaws.{by, differ, either}
 use Rattle.plane.specs.declared.Place.{Place}
-use Rattle.plane.specs.declared.Macro.{Macro}
 use Rattle.plane.proofs.PlaceOrder.{place_same}
-use Rattle.joined.specs.Joined.{Link, others, Alike, Joined, stay, step, Inside}
+use Rattle.joined.specs.Joined.{Link, others, Joined, stay, step, Inside}
 use Rattle.joined.specs.Tree.{TreeOn}
 use Rattle.joined.proofs.JoinedLaws.{turn, one}
 use Rattle.joined.proofs.TreeLaws.{tree-cuts}
@@ -21,7 +20,7 @@ use Rattle.net.specs.Net.{Net}
 use Rattle.slide.specs.declared.Side.{Side}
 use Rattle.slide.specs.Side.{moved}
 use Rattle.slide.specs.Bend.{Edge}
-use Rattle.slide.specs.Slide.{shift, proper, slide}
+use Rattle.slide.specs.Slide.{shift, slide}
 use Rattle.slide.specs.Bars.{IsBar, Allowed}
 use Rattle.slide.specs.Promise.{EndsPins}
 use Rattle.slide.proofs.AcrossLaws.{opposite, there_and_back}

@@ -1,7 +1,7 @@
 -- The range of coordinates as a box: what lies in the box of two places in range is in range, and so is what lies in the box of all.
 -- Assumes nothing.
 use mathlib.Core.Path.{◌≡◌, refl}
-use mathlib.Core.Bool.{false, ◌||◌}
+use mathlib.Core.Bool.{false}
 use lib.IntN.{ℤ, pos, neg_ℤ}
 use lib.Signed.{lt_z}
 use Rattle.lists.proofs.TestLaws.{or-none, or-neither}

@@ -1,17 +1,16 @@
 -- A bar by any labels of the level edges, in whatever order they are read, over places or over numbers of points: what a program has.
 -- Assumes nothing.
-use mathlib.Core.Path.{◌≡◌, refl, sym, ap, ◌∙◌}
-use mathlib.Core.Bool.{Bool, true, false}
+use mathlib.Core.Path.{◌≡◌, sym, ap, ◌∙◌}
+use mathlib.Core.Bool.{Bool, true}
 use mathlib.Core.Logic.{inl}
-use mathlib.Core.List.{List, map}
+use mathlib.Core.List.{List}
 use Rattle.lists.specs.Member.{◌∈◌}
 use Rattle.lists.specs.Those.{those}
 use Rattle.lists.proofs.TestLaws.{by}
-use Rattle.lists.proofs.MapLaws.{in_map, of_map}
 use Rattle.plane.specs.declared.Place.{Place}
 use Rattle.joined.specs.Joined.{Joined}
-use Rattle.joined.specs.Labels.{equal, labels, Labels}
-use Rattle.joined.proofs.JoinedLaws.{one, between, carried, firsts, seconds}
+use Rattle.joined.specs.Labels.{equal, Labels}
+use Rattle.joined.proofs.JoinedLaws.{one, between, carried}
 use Rattle.joined.proofs.LabelLaws.{equal-true, equal-false, labelled, joined_same, same-joined}
 use Rattle.slide.specs.declared.Side.{Side}
 use Rattle.slide.specs.Bend.{Edge}

@@ -8,13 +8,11 @@ use Prim.Native.Nat.{ℕ, zero, suc, ◌*◌}
 use lib.Dec.{eqb, ltb}
 use lib.ListN.{length}
 use Rattle.lists.specs.Any.{any}
-use Rattle.lists.specs.Member.{◌∈◌, Among}
+use Rattle.lists.specs.Member.{Among}
 use Rattle.lists.specs.Sorted.{sorted}
 use Rattle.lists.proofs.TestLaws.{by, differ, either}
-use Rattle.lists.proofs.AnyLaws.{any_none}
 use Rattle.lists.proofs.SortedLaws.{in-sorted, of-sorted, sorted-ascending, ascending-same}
 use Rattle.plane.specs.declared.Place.{Place}
-use Rattle.plane.specs.declared.Macro.{Macro}
 use Rattle.plane.specs.declared.Weights.{Weights}
 use Rattle.plane.specs.Place.{before}
 use Rattle.plane.specs.Macro.{meets, clear}

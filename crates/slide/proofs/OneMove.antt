@@ -7,12 +7,11 @@ use mathlib.Core.List.{List, ◌∷◌}
 use Prim.Native.Nat.{ℕ}
 use lib.Dec.{ltb}
 use Rattle.lists.specs.Any.{any}
-use Rattle.lists.specs.Member.{◌∈◌, here, there}
+use Rattle.lists.specs.Member.{◌∈◌, there}
 use Rattle.lists.specs.Those.{those}
-use Rattle.lists.proofs.TestLaws.{by, differ, either}
+use Rattle.lists.proofs.TestLaws.{either}
 use Rattle.lists.proofs.ThoseLaws.{in-those}
 use Rattle.plane.specs.declared.Place.{Place}
-use Rattle.plane.specs.declared.Macro.{Macro}
 use Rattle.plane.specs.Macro.{clear}
 use Rattle.plane.proofs.PlaceOrder.{place-order}
 use Rattle.net.specs.Net.{Net}

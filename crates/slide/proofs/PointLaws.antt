@@ -1,21 +1,19 @@
 -- The points and the edges of a tree in order: the tree points are the pins and the ends of the edges, and a tree stays one tree, at the
 -- same cost, when its points and its edges are listed in order.
 -- Assumes nothing.
-use mathlib.Core.Path.{◌≡◌, refl, sym, ap, ◌∙◌}
-use mathlib.Core.Logic.{◌⊎◌, inl, inr}
+use mathlib.Core.Path.{◌≡◌, ap, ◌∙◌}
+use mathlib.Core.Logic.{inl, inr}
 use mathlib.Core.List.Memᴰ
 use mathlib.Core.List.{List, [], ◌∷◌, ◌++◌}
-use Prim.Native.Nat.{ℕ}
 use native.Mathlib.Omega.{arith}
 use lib.ListN.{length}
 use Rattle.lists.specs.Member.{◌∈◌, here, there, Among, Once}
-use Rattle.lists.specs.Sorted.{sorted, first_then, Order, Ascending}
+use Rattle.lists.specs.Sorted.{first_then, Order, Ascending}
 use Rattle.lists.proofs.TestLaws.{either}
 use Rattle.lists.proofs.MemberLaws.{once-length}
 use Rattle.lists.proofs.OrderLaws.{pair-order}
 use Rattle.lists.proofs.SortedLaws.{in-sorted, of-sorted, sorted-ascending, ascending-once, ascending-same}
 use Rattle.plane.specs.declared.Place.{Place}
-use Rattle.plane.specs.declared.Macro.{Macro}
 use Rattle.plane.specs.Place.{before}
 use Rattle.plane.proofs.PlaceOrder.{place-order, place_same}
 use Rattle.joined.specs.Joined.{Link, Inside}
@@ -27,7 +25,7 @@ use Rattle.joined.proofs.CostLaws.{lengths-once}
 use Rattle.net.specs.Net.{Net, cost_in}
 use Rattle.slide.specs.Bend.{Edge}
 use Rattle.slide.specs.Slide.{ends, tree_points, in_their_order}
-use Rattle.slide.specs.Promise.{EndsPins, Sound}
+use Rattle.slide.specs.Promise.{Sound}
 use Rattle.slide.proofs.BendEnds.{same_ends, more-links}
 use Rattle.slide.proofs.EndLaws.{decide}
 

@@ -1,15 +1,15 @@
 -- No coordinate leaves the range: a bend stands in the box of its edge, and a bar stops at a far end at the latest.
 -- Assumes nothing.
 use mathlib.Core.Path.{◌≡◌, refl, sym, ap, ◌∙◌}
-use mathlib.Core.Bool.{Bool, true, false, ◌&&◌}
-use mathlib.Core.Logic.{◌⊎◌, inl, inr}
+use mathlib.Core.Bool.{Bool, true, false}
+use mathlib.Core.Logic.{inl, inr}
 use mathlib.Core.List.{List, [], ◌∷◌}
-use Prim.Native.Nat.{ℕ, ◌+◌, ◌<◌}
+use Prim.Native.Nat.{ℕ, ◌<◌}
 use native.Mathlib.Omega.{arith}
-use lib.IntN.{ℤ, pos, ◌-ℤ◌}
+use lib.IntN.{ℤ}
 use lib.ListN.{length}
 use lib.Signed.{lt_z}
-use Rattle.lists.specs.Member.{◌∈◌, here, there}
+use Rattle.lists.specs.Member.{◌∈◌, here}
 use Rattle.lists.specs.Those.{those}
 use Rattle.lists.proofs.TestLaws.{by, either, and_left, and_right}
 use Rattle.lists.proofs.ThoseLaws.{of-those}
@@ -17,7 +17,6 @@ use Rattle.signed.specs.Sides.{up, down, Lt, Le}
 use Rattle.signed.proofs.SideLaws.{z_lt-true, signed}
 use Rattle.signed.proofs.OrderLaws.{min-sides, max-sides}
 use Rattle.plane.specs.declared.Place.{Place}
-use Rattle.plane.specs.declared.Macro.{Macro}
 use Rattle.plane.specs.Box.{Between, InBox}
 use Rattle.joined.specs.Joined.{Link}
 use Rattle.net.specs.Net.{Net}

@@ -2,10 +2,10 @@
 -- or in closed form: it is any number that passes whose next one does not.
 -- Assumes nothing.
 use mathlib.Core.Path.{◌≡◌, refl, sym, ap, ap₂, ◌∙◌}
-use mathlib.Core.Bool.{Bool, true, false, not, ◌&&◌, ◌||◌}
-use mathlib.Core.Logic.{◌⊎◌, inl, inr}
-use mathlib.Core.List.{List, [], ◌∷◌}
-use Prim.Native.Nat.{ℕ, zero, suc, ◌+◌, ◌≤◌}
+use mathlib.Core.Bool.{Bool, true, false, not, ◌||◌}
+use mathlib.Core.Logic.{◌⊎◌}
+use mathlib.Core.List.{List}
+use Prim.Native.Nat.{ℕ, suc, ◌≤◌}
 use native.Mathlib.Omega.{arith}
 use borrow.Author.Tests.{leb-true, leb-false}
 use lib.Dec.{leb}
@@ -20,7 +20,6 @@ use Rattle.signed.specs.Order.{z_min, z_max}
 use Rattle.signed.proofs.SideLaws.{z_le-true, le-z_le, eq_of, signed}
 use Rattle.signed.proofs.OrderLaws.{min-sides, max-sides}
 use Rattle.plane.specs.declared.Place.{Place}
-use Rattle.plane.specs.declared.Macro.{Macro}
 use Rattle.plane.specs.Place.{place, same_place}
 use Rattle.plane.specs.Macro.{clear}
 use Rattle.plane.specs.Box.{Between, InBox}
@@ -28,14 +27,14 @@ use Rattle.plane.proofs.PlaceLaws.{same_true, same_refl}
 use Rattle.plane.proofs.BoxLaws.{first-in-box, clear_within}
 use Rattle.net.specs.Net.{Net}
 use Rattle.slide.specs.declared.Side.{Side}
-use Rattle.slide.specs.Side.{along, across, moved}
-use Rattle.slide.specs.Bend.{Edge, taken}
-use Rattle.slide.specs.Bar.{of_bar, hangs, far_ends, shortest}
+use Rattle.slide.specs.Side.{moved}
+use Rattle.slide.specs.Bend.{Edge}
+use Rattle.slide.specs.Bar.{of_bar, hangs, far_ends}
 use Rattle.slide.specs.Sweep.{low_corner, high_corner, boxes_meet, only_in, first_place, last_place, swept, point_bars, edge_bars, allowed}
-use Rattle.slide.specs.Sweep.{greatest, reach}
+use Rattle.slide.specs.Sweep.{greatest}
 use Rattle.slide.specs.Bars.{IsBar}
 use Rattle.slide.proofs.AcrossLaws.{along-moved, across-moved, in-box}
-use Rattle.slide.proofs.BarLaws.{first_on, last-on, covered, some, greatest-le, greatest-passes, greatest-greatest}
+use Rattle.slide.proofs.BarLaws.{first_on, last-on, covered, greatest-le, greatest-passes, greatest-greatest}
 
 -- Where boxes meet, for a box within a box
 

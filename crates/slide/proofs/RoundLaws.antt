@@ -1,29 +1,27 @@
 -- A round keeps what is promised, and the cost falls by its saving; so all rounds together never raise it, nor the number of edges.
 -- Assumes nothing.
 use mathlib.Core.Path.{◌≡◌, refl, sym, ap, ◌∙◌, subst}
-use mathlib.Core.Bool.{Bool, true, false, not, ◌&&◌}
-use mathlib.Core.Logic.{◌⊎◌, inl, inr}
+use mathlib.Core.Bool.{Bool, true, false, not}
+use mathlib.Core.Logic.{◌⊎◌}
 use mathlib.Core.List.Memᴰ
-use mathlib.Core.List.{List, [], ◌∷◌, ◌++◌, map}
-use Prim.Native.Nat.{ℕ, zero, suc, ◌+◌, ◌-◌, ◌*◌, ◌≤◌, ◌<◌}
+use mathlib.Core.List.{List, [], ◌∷◌, map}
+use Prim.Native.Nat.{ℕ, zero, suc, ◌+◌, ◌≤◌, ◌<◌}
 use native.Mathlib.Omega.{arith}
 use native.Mathlib.Nat.{zero-mul}
-use borrow.Author.Tests.{ltb-true, eqb-true, eqb-false}
+use borrow.Author.Tests.{ltb-true, eqb-false}
 use lib.Dec.{eqb, ltb}
-use lib.ListN.{length, length-map}
+use lib.ListN.{length}
 use Rattle.lists.specs.Any.{any}
 use Rattle.lists.specs.Member.{◌∈◌, here, there, Among, Once}
 use Rattle.lists.specs.Those.{those}
 use Rattle.lists.specs.Sorted.{sorted, first_then, Ascending}
-use Rattle.lists.proofs.TestLaws.{by, differ, either, not-true, and_left, and_right}
-use Rattle.lists.proofs.MapLaws.{in_map, of_map}
+use Rattle.lists.proofs.TestLaws.{by, either, not-true, and_left, and_right}
 use Rattle.lists.proofs.ThoseLaws.{of-those}
-use Rattle.lists.proofs.SortedLaws.{in-sorted, of-sorted, sorted-ascending, ascending-once, ascending-same}
+use Rattle.lists.proofs.SortedLaws.{in-sorted, of-sorted, sorted-ascending, ascending-once}
 use Rattle.plane.specs.declared.Place.{Place}
-use Rattle.plane.specs.declared.Macro.{Macro}
 use Rattle.plane.specs.Place.{before}
 use Rattle.plane.proofs.PlaceOrder.{place-order, place_same}
-use Rattle.joined.specs.Joined.{Link, Inside}
+use Rattle.joined.specs.Joined.{Inside}
 use Rattle.joined.specs.Tree.{TreeOn}
 use Rattle.joined.specs.Cost.{lengths}
 use Rattle.joined.specs.Labels.{equal, labels}
@@ -31,11 +29,11 @@ use Rattle.joined.proofs.LabelLaws.{equal-true, equal-false}
 use Rattle.net.specs.Net.{Net, cost_in}
 use Rattle.slide.specs.declared.Side.{Side}
 use Rattle.slide.specs.declared.Side.TheVariants.{Above, Below, Right, Left}
-use Rattle.slide.specs.Bend.{Edge, straight}
+use Rattle.slide.specs.Bend.{Edge}
 use Rattle.slide.specs.Bar.{same, level, on_bar, ahead, behind, shortest}
-use Rattle.slide.specs.Sweep.{first_place, last_place, allowed, greatest, reach, surplus, saving_of}
+use Rattle.slide.specs.Sweep.{first_place, last_place, allowed, reach, surplus, saving_of}
 use Rattle.slide.specs.declared.Move.{Move}
-use Rattle.slide.specs.Slide.{ends, tree_points, in_their_order, shift, slide, moves, distance_of, move_of, moves_of, better, best_of, choice}
+use Rattle.slide.specs.Slide.{tree_points, in_their_order, shift, slide, moves, distance_of, move_of, moves_of, better, best_of, choice}
 use Rattle.slide.specs.Slide.{make, rounds}
 use Rattle.slide.specs.Bars.{IsBar, Allowed}
 use Rattle.slide.specs.Promise.{Straight, Smaller, Within, Sound, RoundsOf}

@@ -3,10 +3,10 @@
 -- Assumes nothing.
 use mathlib.Core.Path.{◌≡◌, refl, sym, ap, ap₂, ◌∙◌, subst}
 use mathlib.Core.Bool.{Bool, true, false, not, ◌&&◌, ◌||◌}
-use mathlib.Core.Logic.{◌⊎◌, inl, inr, ◌↔◌}
+use mathlib.Core.Logic.{inl, inr}
 use mathlib.Core.List.Memᴰ
-use mathlib.Core.List.{List, map}
-use Prim.Native.Nat.{ℕ, ◌≤◌}
+use mathlib.Core.List.{List}
+use Prim.Native.Nat.{ℕ}
 use native.Mathlib.Omega.{arith}
 use borrow.Author.Tests.{not-true, eqb-true}
 use lib.Dec.{eqb}
@@ -40,7 +40,7 @@ use Rattle.slide.specs.Bar.{same, level, on_bar, of_bar, hangs, ahead, far, long
 use Rattle.slide.specs.Sweep.{low_corner, high_corner, boxes_meet, only_in, swept, point_bars, edge_bars, allowed, reach}
 use Rattle.slide.specs.Sentences.{IsGreatest, IsFarEnd, InSwept, PointFree, EdgeFree, Unblocked, MovesAsFar}
 use Rattle.slide.proofs.AcrossLaws.{level-true, true-level}
-use Rattle.slide.proofs.BarLaws.{box-holds, some, or_cases, shortest-le, greatest-le, greatest-passes, greatest-greatest}
+use Rattle.slide.proofs.BarLaws.{box-holds, some, shortest-le, greatest-le, greatest-passes, greatest-greatest}
 use Rattle.slide.proofs.ReachLaws.{any-in, not-false}
 
 -- A bar

@@ -2,32 +2,31 @@
 -- it if it hangs on the other, and stays otherwise.
 -- Assumes nothing.
 use mathlib.Core.Path.{◌≡◌, refl, sym, ap, ap₂, ◌∙◌}
-use mathlib.Core.Bool.{Bool, true, false, not, ◌&&◌, ◌||◌, or_comm}
-use mathlib.Core.Logic.{◌⊎◌, inl, inr}
+use mathlib.Core.Bool.{Bool, true, false, ◌&&◌, or_comm}
+use mathlib.Core.Logic.{inl, inr}
 use mathlib.Core.List.{List, [], ◌∷◌}
 use Prim.Native.Nat.{ℕ, ◌+◌, ◌*◌, ◌≤◌}
 use native.Mathlib.Nat.{mul-add}
 use native.Mathlib.Omega.{arith}
 use lib.IntN.{ℤ}
-use lib.Signed.{lt_z, le_z}
+use lib.Signed.{lt_z}
 use Rattle.lists.specs.Member.{◌∈◌, here}
-use Rattle.lists.proofs.TestLaws.{by, differ, either}
+use Rattle.lists.proofs.TestLaws.{by}
 use Rattle.signed.specs.Sides.{up, down, Lt, Le}
-use Rattle.signed.proofs.SideLaws.{z_lt-true, z_lt-false, lt-z_lt, le-z_lt, eq_of, signed}
+use Rattle.signed.proofs.SideLaws.{lt-z_lt, le-z_lt, eq_of, signed}
 use Rattle.plane.specs.declared.Place.{Place}
-use Rattle.plane.specs.declared.Macro.{Macro}
 use Rattle.plane.specs.Distance.{apart}
 use Rattle.plane.specs.Macro.{clear}
 use Rattle.plane.specs.Box.{InBox}
 use Rattle.plane.proofs.DistanceLaws.{apart-ordered, apart-comm, apart-self}
 use Rattle.plane.proofs.MacroLaws.{clear_comm}
-use Rattle.plane.proofs.BoxLaws.{first-in-box, last-in-box, clear_within}
+use Rattle.plane.proofs.BoxLaws.{last-in-box, clear_within}
 use Rattle.joined.specs.Joined.{Link}
 use Rattle.net.specs.Net.{Net, cost_in}
 use Rattle.slide.specs.declared.Side.{Side}
 use Rattle.slide.specs.Side.{along, across, moved, weight, weight_along}
 use Rattle.slide.specs.Bend.{Edge, straight}
-use Rattle.slide.specs.Bar.{level, of_bar, hangs, ahead, behind}
+use Rattle.slide.specs.Bar.{ahead, behind}
 use Rattle.slide.specs.Slide.{shift}
 use Rattle.slide.specs.Bars.{IsBar, Allowed}
 use Rattle.slide.proofs.GlueLaws.{UprightAll, glue}

@@ -2,31 +2,27 @@
 -- axis-parallel unless the refined tree is given back.
 -- Assumes nothing.
 use mathlib.Core.Path.{◌≡◌, refl, sym, ap, ◌∙◌, subst}
-use mathlib.Core.Bool.{Bool, true, false}
-use mathlib.Core.Logic.{◌⊎◌, inl, inr}
+use mathlib.Core.Bool.{true}
+use mathlib.Core.Logic.{inl, inr}
 use mathlib.Core.List.Memᴰ
-use mathlib.Core.List.{List, [], ◌∷◌}
-use Prim.Native.Nat.{ℕ, suc, ◌+◌, ◌≤◌}
+use mathlib.Core.List.{List}
+use Prim.Native.Nat.{◌+◌, ◌≤◌}
 use native.Mathlib.Omega.{arith}
 use lib.ListN.{length}
-use Rattle.lists.specs.Member.{◌∈◌, here, there, Among, Once, rest}
-use Rattle.lists.specs.Sorted.{sorted, first_then, Order, Ascending}
-use Rattle.lists.proofs.TestLaws.{by, differ, either}
+use Rattle.lists.specs.Member.{◌∈◌, Among, Once}
+use Rattle.lists.specs.Sorted.{first_then, Ascending}
+use Rattle.lists.proofs.TestLaws.{differ, either}
 use Rattle.lists.proofs.MemberLaws.{rest_in, rest-gone}
-use Rattle.lists.proofs.OrderLaws.{pair-order}
 use Rattle.lists.proofs.SortedLaws.{in-sorted, of-sorted, sorted-ascending, ascending-once}
 use Rattle.plane.specs.declared.Place.{Place}
-use Rattle.plane.specs.declared.Macro.{Macro}
 use Rattle.plane.specs.Place.{before}
 use Rattle.plane.proofs.PlaceOrder.{place-order, place_same}
 use Rattle.joined.specs.Joined.{Link, others, Inside}
-use Rattle.joined.specs.OneTree.{Point, OneTree, Simple}
-use Rattle.joined.specs.Tree.{TreeOn, Forest}
+use Rattle.joined.specs.OneTree.{Point, Simple}
 use Rattle.joined.specs.Cost.{lengths}
-use Rattle.joined.proofs.JoinedLaws.{one}
 use Rattle.joined.proofs.OneTreeLaws.{tree-one, one-tree}
 use Rattle.net.specs.Net.{Net, cost_in}
-use Rattle.slide.specs.Bend.{Edge, straight, Bent, bent, given_back, bends}
+use Rattle.slide.specs.Bend.{Edge, Bent, bent, given_back, bends}
 use Rattle.slide.specs.Slide.{ends, tree_points, in_their_order, rounds, after_bends, slid}
 use Rattle.slide.specs.Promise.{Straight, Smaller, Within, Sound, Given, RoundsOf, Promise}
 use Rattle.slide.proofs.GlueLaws.{UprightAll}

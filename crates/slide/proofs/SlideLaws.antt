@@ -2,16 +2,15 @@
 -- Where a moved point meets another tree point, that is the far end of an edge of the bar's point, and the edge goes: so no more points
 -- become one than edges go; and no fewer, since all is still joined.
 -- Assumes nothing.
-use mathlib.Core.Path.{◌≡◌, refl, sym, ap, ap₂, ◌∙◌}
-use mathlib.Core.Bool.{Bool, true, false, not, ◌&&◌, ◌||◌}
+use mathlib.Core.Path.{◌≡◌, refl, sym, ap, ◌∙◌}
+use mathlib.Core.Bool.{Bool, true, false, not}
 use mathlib.Core.Logic.{◌⊎◌, inl, inr}
 use mathlib.Core.List.Memᴰ
 use mathlib.Core.List.{List, [], ◌∷◌, ◌++◌, map}
-use Prim.Native.Nat.{ℕ, suc, ◌+◌, ◌*◌, ◌-◌, ◌≤◌}
-use native.Mathlib.Nat.{mul-add, mul-suc, mul_comm, mul_assoc, mul-zero}
+use Prim.Native.Nat.{ℕ, ◌+◌, ◌*◌, ◌-◌, ◌≤◌}
+use native.Mathlib.Nat.{mul-add, mul-suc, mul_comm, mul_assoc}
 use native.Mathlib.Omega.{arith}
 use lib.ListN.{length, length-map, length-append}
-use lib.Signed.{lt_z, le_z}
 use Rattle.lists.specs.Member.{◌∈◌, here, there, Among, Once}
 use Rattle.lists.specs.Those.{those}
 use Rattle.lists.specs.Total.{total}
@@ -19,10 +18,8 @@ use Rattle.lists.proofs.TestLaws.{by, differ, either}
 use Rattle.lists.proofs.MemberLaws.{once-length}
 use Rattle.lists.proofs.MapLaws.{in_map, of_map}
 use Rattle.lists.proofs.ThoseLaws.{in-those, of-those, those-split, those-hit, those-miss}
-use Rattle.signed.specs.Sides.{up, down, Lt, Le}
-use Rattle.signed.proofs.SideLaws.{eq_of, signed}
+use Rattle.signed.specs.Sides.{up, down, Lt}
 use Rattle.plane.specs.declared.Place.{Place}
-use Rattle.plane.specs.declared.Macro.{Macro}
 use Rattle.plane.specs.Place.{same_place}
 use Rattle.plane.specs.Macro.{clear}
 use Rattle.plane.proofs.PlaceLaws.{same_true, same_refl}
@@ -39,13 +36,13 @@ use Rattle.slide.specs.Bend.{Edge, straight}
 use Rattle.slide.specs.Bar.{ahead, behind}
 use Rattle.slide.specs.Sweep.{surplus, saving_of}
 use Rattle.slide.specs.Slide.{shift, shift_edge, proper, slide}
-use Rattle.slide.specs.Bars.{IsBar, FarEnd, Allowed}
+use Rattle.slide.specs.Bars.{IsBar, Allowed}
 use Rattle.slide.specs.Promise.{Clear, Straight}
 use Rattle.slide.proofs.GlueLaws.{UprightAll}
 use Rattle.plane.proofs.CostLaws.{cost-self}
 use Rattle.slide.proofs.AcrossLaws.{along-moved, across-moved, one_place, opposite, there_and_back, back-and-there}
-use Rattle.slide.proofs.EdgeLaws.{shift-on, shift-off, Kind, kind}
-use Rattle.slide.proofs.ShiftLaws.{le-eq, shift-clear, shift-straight, Change, less, more, none, change}
+use Rattle.slide.proofs.EdgeLaws.{shift-on, shift-off, kind}
+use Rattle.slide.proofs.ShiftLaws.{shift-clear, shift-straight, Change, less, more, none, change}
 
 -- Edges with two ends
 

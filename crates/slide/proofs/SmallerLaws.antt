@@ -1,19 +1,18 @@
 -- Edges stay written smaller place first: a bend is written so, and a slide keeps which end is the smaller.
 -- Assumes nothing.
-use mathlib.Core.Path.{◌≡◌, refl, sym, ap, ◌∙◌}
+use mathlib.Core.Path.{◌≡◌, sym, ap, ◌∙◌}
 use mathlib.Core.Bool.{Bool, true, false}
-use mathlib.Core.Logic.{◌⊎◌, inl, inr}
+use mathlib.Core.Logic.{inl, inr}
 use mathlib.Core.List.{List}
-use Prim.Native.Nat.{ℕ, ◌+◌}
+use Prim.Native.Nat.{ℕ}
 use native.Mathlib.Omega.{arith}
 use lib.IntN.{ℤ, pos, ◌-ℤ◌}
 use lib.Signed.{lt_z}
 use Rattle.lists.specs.Member.{◌∈◌}
 use Rattle.lists.proofs.TestLaws.{by, differ, either}
-use Rattle.signed.specs.Sides.{up, down, Lt, Le}
+use Rattle.signed.specs.Sides.{up, down, Lt}
 use Rattle.signed.proofs.SideLaws.{z_lt-true, z_lt-false, sub-sides, up_pos, down_pos, eq_of, signed}
 use Rattle.plane.specs.declared.Place.{Place}
-use Rattle.plane.specs.declared.Macro.{Macro}
 use Rattle.plane.specs.Place.{before}
 use Rattle.plane.proofs.PlaceLaws.{before-true, before-by-x, before-by-y, before-tie}
 use Rattle.plane.proofs.PlaceOrder.{place-order}
@@ -24,12 +23,12 @@ use Rattle.slide.specs.declared.Side.TheVariants.{Above, Below, Right, Left}
 use Rattle.slide.specs.Side.{along, across, moved}
 use Rattle.graph.specs.Edges.{edge_of}
 use Rattle.slide.specs.Bend.{Edge, straight, bent, bends}
-use Rattle.slide.specs.Slide.{shift, proper, slide}
+use Rattle.slide.specs.Slide.{shift, slide}
 use Rattle.slide.specs.Bars.{IsBar, Allowed}
 use Rattle.slide.specs.Promise.{Straight, Smaller}
 use Rattle.slide.proofs.BendLaws.{Corner, each-bent}
 use Rattle.slide.proofs.AcrossLaws.{along-moved, across-moved, one_place, before-along}
-use Rattle.slide.proofs.EdgeLaws.{shift-on, shift-off, Hangs, Hanging, rises, falls, hang, Kind, bar, first, second, other, kind}
+use Rattle.slide.proofs.EdgeLaws.{shift-on, shift-off, Hangs, hang, Kind, bar, first, second, other, kind}
 use Rattle.slide.proofs.ShiftLaws.{moved-level}
 use Rattle.slide.proofs.SlideLaws.{false-proper, Slid, of-slide}
 

@@ -1,30 +1,28 @@
 -- What code has of the edges before each round: from the refined tree's through bending, and from one round to the next.
 -- Assumes nothing.
-use mathlib.Core.Path.{◌≡◌, refl, sym, ap, ◌∙◌}
-use mathlib.Core.Bool.{true, false}
+use mathlib.Core.Path.{◌≡◌, refl, sym, ap}
 use mathlib.Core.List.{List, [], ◌∷◌}
-use Prim.Native.Nat.{ℕ, suc, ◌+◌, ◌*◌, ◌≤◌, ◌<◌}
+use Prim.Native.Nat.{ℕ, suc, ◌≤◌}
 use native.Mathlib.Omega.{arith}
 use borrow.Author.Tests.{eqb-true, eq-eqb}
 use lib.Dec.{eqb}
 use lib.ListN.{length}
 use Rattle.lists.specs.Member.{◌∈◌, here}
 use Rattle.lists.specs.Sorted.{first_then}
-use Rattle.lists.proofs.TestLaws.{by, differ}
+use Rattle.lists.proofs.TestLaws.{by}
 use Rattle.lists.proofs.SortedLaws.{of-sorted, sorted-ascending}
 use Rattle.plane.specs.declared.Place.{Place}
 use Rattle.plane.specs.Place.{before}
 use Rattle.net.specs.Net.{Net}
-use Rattle.net.specs.Allowed.{PlaceInRange, Allowed}
-use Rattle.slide.specs.declared.Move.{Move}
-use Rattle.slide.specs.Bend.{Edge, Bent, bent, given_back, bends}
+use Rattle.net.specs.Allowed.{PlaceInRange}
+use Rattle.slide.specs.Bend.{Edge, bent, given_back, bends}
 use Rattle.slide.specs.Slide.{tree_points, in_their_order, choice, make, rounds, after_bends, slid}
 use Rattle.slide.specs.Promise.{Within, Sound, Slidable, State}
 use Rattle.slide.proofs.InRange.{least_place, greatest_place, range-box, box-in-range}
 use Rattle.slide.proofs.RangeLaws.{bends-within}
 use Rattle.slide.proofs.SmallerLaws.{bends-smaller}
 use Rattle.slide.proofs.PointLaws.{edge_order, sorted-length}
-use Rattle.slide.proofs.RoundLaws.{RoundSound, round-sound}
+use Rattle.slide.proofs.RoundLaws.{round-sound}
 use Rattle.slide.proofs.SlidSound.{given-sound, bent-does, bent-sound, in-order-sound, bent-lines}
 
 -- In range, by the box of all coordinates

@@ -5,7 +5,7 @@ use mathlib.Core.Path.{◌≡◌, refl, sym, ap, ◌∙◌}
 use mathlib.Core.Bool.{Bool, true, false, not, ◌&&◌, ◌||◌}
 use mathlib.Core.Logic.{◌⊎◌, inl, inr}
 use mathlib.Core.List.Memᴰ
-use mathlib.Core.List.{List, [], ◌∷◌, map}
+use mathlib.Core.List.{List, [], ◌∷◌}
 use Prim.Native.Nat.{ℕ, zero, suc, ◌+◌, ◌-◌, ◌≤◌, ◌<◌, min}
 use native.Mathlib.Omega.{arith}
 use borrow.Author.Tests.{eqb-true, leb-true, leb-false, ltb-true, ltb-false}
@@ -16,12 +16,12 @@ use Rattle.lists.specs.Any.{any}
 use Rattle.lists.specs.Member.{◌∈◌, here, there}
 use Rattle.lists.specs.Those.{those}
 use Rattle.lists.proofs.TestLaws.{by, differ, either, contrapose, not-true, and_left, and_right, and_both}
-use Rattle.lists.proofs.AnyLaws.{any_none, none_any}
+use Rattle.lists.proofs.AnyLaws.{none_any}
 use Rattle.lists.proofs.MapLaws.{of_map}
 use Rattle.lists.proofs.ThoseLaws.{of-those}
 use Rattle.signed.specs.Sides.{up, down, Lt, Le}
 use Rattle.signed.specs.Order.{z_min, z_max}
-use Rattle.signed.proofs.SideLaws.{one_side, z_lt-true, z_lt-false, lt-z_lt, z_le-true, le-z_le, add-sides, sub-sides, up_pos, down_pos, signed}
+use Rattle.signed.proofs.SideLaws.{one_side, z_lt-true, lt-z_lt, z_le-true, le-z_le, add-sides, sub-sides, up_pos, down_pos}
 use Rattle.signed.proofs.OrderLaws.{min-sides, max-sides, min_self}
 use Rattle.plane.specs.declared.Place.{Place}
 use Rattle.plane.specs.declared.Macro.{Macro}
@@ -36,14 +36,14 @@ use Rattle.slide.specs.Side.{along, across, moved}
 use Rattle.slide.specs.Bend.{Edge, taken}
 use Rattle.slide.specs.Bar.{of_bar, hangs, ahead, far, long, shortest, far_ends}
 use Rattle.slide.specs.Sweep.{low_corner, high_corner, boxes_meet, only_in, first_place, last_place, swept, point_bars, edge_bars, allowed}
-use Rattle.slide.specs.Sweep.{greatest, reach}
+use Rattle.slide.specs.Sweep.{reach}
 use Rattle.slide.specs.Stop.{starts, finishes, near_side, far_side, beyond, low_along, high_along, low_across, high_across}
 use Rattle.slide.specs.Stop.{edge_ahead, macro_ahead, edge_stop, macro_stop, least_stop, stop, closed}
 use Rattle.slide.specs.Bars.{IsBar}
 use Rattle.slide.proofs.AcrossLaws.{along-moved, across-moved}
-use Rattle.slide.proofs.BarLaws.{first_on, last-on, covered, some, or_cases, box-holds}
+use Rattle.slide.proofs.BarLaws.{first_on, last-on, covered, or_cases, box-holds}
 use Rattle.slide.proofs.ReachLaws.{not-false, any-in, allowed-less, greatest-is}
-use Rattle.slide.proofs.TouchLaws.{Touch, touch, touched, Hit, hit, hits}
+use Rattle.slide.proofs.TouchLaws.{touch, touched, hit, hits}
 
 -- Numbers
 

@@ -1,5 +1,5 @@
 -- What holds of the tree after bending, after each round and in the end: rule M15.
-use Rattle.std.specs.Prelude.{◌≡◌, true, false, ◌⊎◌, List, [], ◌∷◌, ℕ, zero, suc, ◌+◌, ◌*◌, ◌≤◌, ◌<◌, length}
+use Rattle.std.specs.Prelude.{◌≡◌, true, false, List, [], ◌∷◌, ℕ, zero, suc, ◌+◌, ◌*◌, ◌≤◌, ◌<◌, length}
 use Rattle.lists.specs.Member.{◌∈◌, Among}
 use Rattle.lists.specs.Sorted.{first_then, Ascending}
 use Rattle.plane.specs.declared.Place.{Place}

@@ -1,6 +1,6 @@
 -- What a bar is and what blocks it, in words of points and places. No promise needs these sentences: a tree stays one tree, clear and no
 -- dearer whatever else blocks a bar. So they are said by themselves, and proved of the definitions (../proofs/SentenceLaws.antt).
-use Rattle.std.specs.Prelude.{◌≡◌, Bool, true, false, ◌⊎◌, ◌↔◌, List, ℕ, ◌≤◌}
+use Rattle.std.specs.Prelude.{◌≡◌, Bool, true, ◌⊎◌, ◌↔◌, List, ℕ, ◌≤◌}
 use Rattle.lists.specs.Member.{◌∈◌}
 use Rattle.lists.specs.Those.{those}
 use Rattle.plane.specs.declared.Place.{Place}

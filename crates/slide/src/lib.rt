@@ -4,7 +4,7 @@
 use plane::Place;
 
 // The side to which a bar moves: a horizontal one up or down, a vertical one right or left.
-#[derive(Clone, Copy)]
+#[derive(Clone, Copy, PartialEq, Eq, Debug)]
 pub enum Side {
     Above,
     Below,

@@ -4,7 +4,7 @@ use mathlib.Core.Path.{◌≡◌, sym, ap, ◌∙◌}
 use mathlib.Core.List.Memᴰ
 use mathlib.Core.List.{List, ◌++◌}
 use Rattle.lists.specs.Member.{Among}
-use Rattle.lists.specs.Sorted.{sorted, first_then}
+use Rattle.lists.specs.Sorted.{first_then}
 use Rattle.lists.proofs.TestLaws.{either}
 use Rattle.lists.proofs.SortedLaws.{in-sorted, of-sorted, sorted-ascending, ascending-same}
 use Rattle.plane.specs.declared.Place.{Place}

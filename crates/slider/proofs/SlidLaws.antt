@@ -1,13 +1,11 @@
 -- Sliding from a refined tree's edges: what the call that bends asks for, what comes of it, and the edges in the end.
 -- Assumes nothing.
 use mathlib.Core.Path.{◌≡◌, refl, sym, ap, ap₂, ◌∙◌, subst}
-use mathlib.Core.Bool.{true, false}
 use mathlib.Core.List.{List}
 use Prim.Native.Nat.{ℕ, ◌+◌, ◌*◌, ◌≤◌, ◌<◌}
 use native.Mathlib.Omega.{arith}
 use lib.IntN.{ℤ}
 use lib.ListN.{length}
-use Rattle.lists.proofs.TestLaws.{differ}
 use Rattle.lent.specs.Over.{over}
 use Rattle.lent.specs.Entries.{flat}
 use Rattle.lent.proofs.EntryTable.{entries_over}
@@ -25,18 +23,20 @@ use Rattle.slide.specs.Promise.{Slidable, State}
 use Rattle.slide.proofs.SlidSound.{bent-does}
 use Rattle.slide.proofs.StateLaws.{first-pin, slidable-sound, bent-state, slid-bent, slid-back}
 use Rattle.straight.specs.Table.{straight_bound}
-use Rattle.bends.specs.declared.Bent as declared
+use Rattle.std.specs.Prelude.{Option, Some, None}
+use Rattle.tree.specs.declared.Size.{Size}
 use Rattle.settled.specs.Settled.{edges_of, points_of}
 use Rattle.bends.specs.Bending.{BentBy}
 use Rattle.slider.proofs.TurnLaws.{edges-count}
 
 -- What bending came to
 
-bent-back : (b : Bent) (r : declared.Bent) (out : List ℤ) → BentBy b r out → r.back ≡ true → b ≡ given_back
-bent-back (bent X U) r out h e = differ e h.0
+bent-back : (b : Bent) (r : Option Size) (out : List ℤ) → BentBy b r out → r ≡ None → b ≡ given_back
+bent-back (bent X U) (Some r) out h e = cc
+bent-back (bent X U) None out h e = absurd h
 bent-back given_back r out h e = refl
 
-pub record BentTo (b : Bent) (r : declared.Bent) (out : List ℤ) : Type 0 where
+pub record BentTo (b : Bent) (r : Size) (out : List ℤ) : Type 0 where
   pub places : List Place
   pub lines : List Edge
   pub is : b ≡ bent places lines
@@ -44,16 +44,9 @@ pub record BentTo (b : Bent) (r : declared.Bent) (out : List ℤ) : Type 0 where
   pub many : r.edges ≡ length lines
   pub listed : edges_of out r.edges ≡ lines
 
-pub bent-to : (b : Bent) (r : declared.Bent) (out : List ℤ) → BentBy b r out → r.back ≡ false → BentTo b r out
-bent-to (bent X U) r out h e = record {
-  places = X;
-  lines = U;
-  is = refl;
-  counted = h.1.0;
-  many = h.1.1.0;
-  listed = h.1.1.1;
-}
-bent-to given_back r out h e = differ h e
+pub bent-to : (b : Bent) (r : Size) (out : List ℤ) → BentBy b (Some r) out → BentTo b r out
+bent-to (bent X U) r out h = record { places = X; lines = U; is = refl; counted = h.0; many = h.1.0; listed = h.1.1 }
+bent-to given_back r out h = cc
 
 -- The edges given
 
@@ -85,12 +78,12 @@ module _ (w : Weights) (pins macros edges : List ℤ) (e : ℕ) (s : Slidable (n
     points-few,
   )
 
-  pub slid-given-back : (r : declared.Bent) (out : List ℤ) → BentBy (bends (points_of (pin_places pins) T) T) r out → r.back ≡ true →
+  pub slid-given-back : (r : Option Size) (out : List ℤ) → BentBy (bends (points_of (pin_places pins) T) T) r out → r ≡ None →
       T ≡ slid net T
   unfolding tree_points
   slid-given-back r out h e = sym (slid-back net T (bent-back _ r out h e))
 
-  module _ (r : declared.Bent) (out : List ℤ) (b : BentTo (bends (points_of (pin_places pins) T) T) r out) where
+  module _ (r : Size) (out : List ℤ) (b : BentTo (bends (points_of (pin_places pins) T) T) r out) where
     bends-so : bends (tree_points net T) T ≡ bent b.places b.lines
     unfolding tree_points
     bends-so = b.is

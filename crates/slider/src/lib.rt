@@ -13,13 +13,6 @@ ghost use Rattle.settled.specs.Settled.{edges_of};
 use plane::Weights;
 use straight::EDGE_NUMBERS;
 
-// What a round came to: whether a bar moved, and how many edges there are.
-#[derive(Clone, Copy)]
-pub struct Turn {
-    pub moved: bool,
-    pub edges: usize,
-}
-
 // The slid tree of the first e edges: slanted edges bent, then rounds. How many edges it has.
 pub fn slide(w: Weights, pins: &[i32], macros: &[i32], edges: &mut [i32], e: usize) -> usize
     requires slidable { Slidable (net_with w pins.now macros.now) (edges_of edges.old e) }
@@ -28,13 +21,12 @@ pub fn slide(w: Weights, pins: &[i32], macros: &[i32], edges: &mut [i32], e: usi
         ≡ slid (net_with w pins.now macros.now) (edges_of edges.old e) }
 {
     let mut list = [0i32; EDGE_NUMBERS];
-    let bent = bends::bend_tree(pins, &*edges, e, &mut list);
-    if bent.back {
+    let Some(bent) = bends::bend_tree(pins, edges, e, &mut list) else {
         return e;
-    }
+    };
     let mut row = [0i32; EDGE_NUMBERS];
     let start = settled::sort_edges(&list, bent.edges, &mut row);
     let count = round::rounds(w, pins, macros, &mut row, start, bent.points);
-    laid::give(&row, count, &mut *edges);
+    laid::give(&row, count, edges);
     count
 }

@@ -1,5 +1,5 @@
 // A round: the best move of all bars made; and rounds until one saves nothing.
-ghost use Rattle.std.specs.Prelude.{◌≡◌, ◌*◌, ◌≤◌, length};
+ghost use Rattle.std.specs.Prelude.{◌≡◌, true, false, MatchOption, ◌*◌, ◌≤◌, length};
 ghost use Rattle.net.specs.Net.{net_with};
 ghost use Rattle.slide.specs.Slide.{in_their_order, rounds};
 ghost use Rattle.slide.specs.Promise.{State};
@@ -9,7 +9,6 @@ ghost use Rattle.settled.specs.Settled.{edges_of};
 ghost use Rattle.shifted.specs.Shift.{shifted, Movable};
 ghost use Rattle.slider.specs.Round.{saves};
 
-use crate::Turn;
 use plane::Weights;
 use shifted::Shift;
 use straight::{EDGE_NUMBERS, NUMBERS, POINTS};
@@ -30,11 +29,12 @@ fn shift_bar(
     ensures { (edges_of out.new result ≡ shifted m pts.now
         (labels_for m.side rows.now columns.now) keys.now z.edges) × (result ≤ z.edges) }
 {
-    let s = m.side;
-    if moves::is_horizontal(s) {
-        return shifted::shift_edges(pts, z.points, keys, z.edges, rows, m, &mut *out);
-    }
-    shifted::shift_edges(pts, z.points, keys, z.edges, columns, m, &mut *out)
+    let lab = if moves::is_horizontal(m.side) {
+        rows
+    } else {
+        columns
+    };
+    shifted::shift_edges(pts, z.points, keys, z.edges, lab, m, out)
 }
 
 // The edges after the move, in order, in a list of their own; how many there are.
@@ -55,20 +55,22 @@ fn make(
 {
     let mut out = [0i32; EDGE_NUMBERS];
     let count = shift_bar(pts, keys, z, rows, columns, m, &mut out);
-    settled::sort_edges(&out, count, &mut *list)
+    settled::sort_edges(&out, count, list)
 }
 
-// The best move of all bars made, if it saves.
-fn round(w: Weights, pins: &[i32], macros: &[i32], list: &mut [i32], e: usize) -> Turn
+// The best move of all bars made: how many edges there are then, or None where it saves nothing.
+fn round(w: Weights, pins: &[i32], macros: &[i32], list: &mut [i32], e: usize) -> Option<usize>
     requires state { State (net_with w pins.now macros.now) (edges_of list.old e) }
     requires list_len { length list.old ≡ straight_bound * 4 }
-    ensures { (result.moved ≡ saves (net_with w pins.now macros.now) (edges_of list.old e))
-        × (edges_of list.new result.edges
-        ≡ rounds (net_with w pins.now macros.now) 1 (edges_of list.old e)) }
+    ensures { MatchOption result
+        ((saves (net_with w pins.now macros.now) (edges_of list.old e) ≡ false)
+        × (edges_of list.new e ≡ rounds (net_with w pins.now macros.now) 1 (edges_of list.old e)))
+        (λ left. (saves (net_with w pins.now macros.now) (edges_of list.old e) ≡ true)
+        × (edges_of list.new left ≡ rounds (net_with w pins.now macros.now) 1 (edges_of list.old e))) }
 {
     let mut pts = [0i32; NUMBERS];
     let mut keys = [0; POINTS];
-    let z = settled::settle(pins, &*list, e, &mut pts, &mut keys);
+    let z = settled::settle(pins, list, e, &mut pts, &mut keys);
     let mut rows = [0; POINTS];
     let mut columns = [0; POINTS];
     let size = reach::Size {
@@ -80,22 +82,14 @@ fn round(w: Weights, pins: &[i32], macros: &[i32], list: &mut [i32], e: usize) -
     let chosen = bars::choice(&pts, &keys, size, pins, macros, &mut rows, &mut columns);
     let best = chosen.best;
     if best.saving == 0 {
-        return Turn {
-            moved: false,
-            edges: e,
-        };
+        return None;
     }
-    let side = best.side;
     let m = Shift {
         label: chosen.label,
-        side: side,
+        side: best.side,
         distance: best.distance,
     };
-    let count = make(&pts, &keys, z, &rows, &columns, m, &mut *list);
-    Turn {
-        moved: true,
-        edges: count,
-    }
+    Some(make(&pts, &keys, z, &rows, &columns, m, list))
 }
 
 // At most n rounds from the first e edges; how many edges there are then.
@@ -113,14 +107,11 @@ pub fn rounds(
         ≡ rounds (net_with w pins.now macros.now) n (edges_of list.old e)) × (result ≤ straight_bound) }
 {
     let mut count = e;
-    let mut i = 0;
-    while i < n {
-        let turn = round(w, pins, macros, &mut *list, count);
-        count = turn.edges;
-        i += 1;
-        if !turn.moved {
+    for _ in 0..n {
+        let Some(left) = round(w, pins, macros, list, count) else {
             return count;
-        }
+        };
+        count = left;
     }
     count
 }

@@ -3,7 +3,7 @@
 use mathlib.Core.List.{List}
 use Prim.Native.Nat.{ℕ, ◌≤◌}
 use native.Mathlib.Omega.{arith}
-use Rattle.straight.specs.Table.{straight_bound, key, Small, Within}
+use Rattle.straight.specs.Table.{straight_bound, Small, Within}
 
 -- ends below the bound make small keys
 pub within-small : (n : ℕ) (ks : List ℕ) → n ≤ straight_bound → Within n ks → Small ks

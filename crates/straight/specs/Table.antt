@@ -1,5 +1,5 @@
 -- The tables of a tree of axis-parallel edges, read as places. The record is that of crate tree; the bound is twice its bound.
-use Rattle.std.specs.Prelude.{◌≡◌, List, [], ◌∷◌, ℕ, zero, suc, ◌+◌, ◌*◌, ◌/◌, ◌%◌, ◌≤◌, ◌<◌, ℤ, get_or}
+use Rattle.std.specs.Prelude.{List, [], ◌∷◌, ℕ, zero, suc, ◌+◌, ◌*◌, ◌/◌, ◌%◌, ◌≤◌, ◌<◌, ℤ, get_or}
 use Rattle.plane.specs.declared.Place.{Place}
 use Rattle.plane.specs.Flat.{place_at}
 use Rattle.plane.specs.Rank.{InOrder}

@@ -6,7 +6,7 @@ ghost use Rattle.lists.specs.Sorted.{position};
 ghost use Rattle.plane.specs.Place.{before};
 ghost use Rattle.plane.specs.Flat.{place_at};
 ghost use Rattle.plane.specs.Rank.{InOrder};
-ghost use Rattle.straight.specs.Table.{straight_bound, key_bound, first_end, second_end, ends_of, points_in};
+ghost use Rattle.straight.specs.Table.{straight_bound, key_bound, first_end, second_end, points_in};
 
 use plane::Place;
 
@@ -22,10 +22,7 @@ pub fn point_at(pts: &[i32; NUMBERS], i: usize) -> Place
     requires { i < straight_bound }
     ensures { result ≡ place_at pts.now i }
 {
-    Place {
-        x: pts[i * 2],
-        y: pts[i * 2 + 1],
-    }
+    plane::place_at(pts, i)
 }
 
 // The number of the first end of edge i, and of its second end.
@@ -41,21 +38,6 @@ pub fn second_end(keys: &[usize; POINTS], i: usize) -> usize
     ensures { (result ≡ second_end (get_or keys.now i 0)) × (result < straight_bound) }
 {
     keys[i] % POINTS
-}
-
-// The places of the ends of edge i.
-pub fn first_place(pts: &[i32; NUMBERS], keys: &[usize; POINTS], i: usize) -> Place
-    requires { (i < straight_bound) × (get_or keys.now i 0 < key_bound) }
-    ensures { result ≡ (ends_of pts.now (get_or keys.now i 0)).0 }
-{
-    point_at(pts, first_end(keys, i))
-}
-
-pub fn second_place(pts: &[i32; NUMBERS], keys: &[usize; POINTS], i: usize) -> Place
-    requires { i < straight_bound }
-    ensures { result ≡ (ends_of pts.now (get_or keys.now i 0)).1 }
-{
-    point_at(pts, second_end(keys, i))
 }
 
 // How many of n places, which are in order, come before p: its number, if it is one of them.

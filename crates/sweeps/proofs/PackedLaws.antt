@@ -3,9 +3,9 @@
 -- more, and for two parts of the pins the sum of both.
 -- Assumes nothing.
 use mathlib.Core.Path.{◌≡◌, refl, sym, ap, ◌∙◌}
-use mathlib.Core.Bool.{Bool, true, false, not}
+use mathlib.Core.Bool.{Bool, true, not}
 use mathlib.Core.List.{List, [], ◌∷◌, map}
-use Prim.Native.Nat.{ℕ, suc, ◌+◌, ◌-◌, ◌≤◌, ◌<◌}
+use Prim.Native.Nat.{ℕ, suc, ◌+◌, ◌≤◌}
 use native.Mathlib.Omega.{arith}
 use Rattle.lists.specs.Member.{◌∈◌, here, there}
 use Rattle.lists.specs.Those.{those}
@@ -13,9 +13,8 @@ use Rattle.lists.specs.Total.{total}
 use Rattle.lists.proofs.TestLaws.{by, not-true}
 use Rattle.lists.proofs.MapLaws.{in_map, of_map}
 use Rattle.lists.proofs.ThoseLaws.{of-those}
-use Rattle.joined.specs.Joined.{Link}
 use Rattle.joined.specs.Cost.{Cost, lengths}
-use Rattle.best.specs.Sets.{Edges, Reaches, Split, Closed}
+use Rattle.best.specs.Sets.{Edges, Reaches, Closed}
 use Rattle.best.proofs.LowerBound.{lower-bound}
 use Rattle.sweeps.specs.Raises.{Raise, raised, falls, Packed}
 

@@ -1,11 +1,11 @@
 -- A sweep packs its heights, so its number is a lower bound; and the links of the graph, what is left over them and the list of pins fix
 -- it.
 -- Assumes nothing.
-use mathlib.Core.Path.{◌≡◌, refl, sym, ap, ◌∙◌}
+use mathlib.Core.Path.{◌≡◌, refl, sym, ◌∙◌}
 use mathlib.Core.Logic.{◌⊎◌, inl, inr}
 use mathlib.Core.List.Memᴰ
-use mathlib.Core.List.{List, [], ◌∷◌, map}
-use Prim.Native.Nat.{ℕ, ◌+◌, ◌-◌, ◌≤◌}
+use mathlib.Core.List.{List, [], ◌∷◌}
+use Prim.Native.Nat.{ℕ, ◌-◌, ◌≤◌}
 use native.Mathlib.Omega.{arith}
 use Rattle.lists.specs.Member.{◌∈◌, here, there}
 use Rattle.lists.specs.Total.{total}
@@ -16,7 +16,7 @@ use Rattle.joined.specs.Cost.{Cost, lengths}
 use Rattle.grid.specs.Walk.{Walk, stop, go}
 use Rattle.grid.proofs.WalkLaws.{walk-map}
 use Rattle.best.specs.Sets.{Edges, Reaches}
-use Rattle.sweeps.specs.Raises.{Raise, raised, falls, Packed}
+use Rattle.sweeps.specs.Raises.{Raise, raised, falls}
 use Rattle.sweeps.specs.Sweep.{Nearest, Heights, lessened, Swept, last, raise}
 use Rattle.sweeps.proofs.PackedLaws.{packed-bound, pins_raised}
 

@@ -4,7 +4,7 @@ use mathlib.Core.Path.{◌≡◌, refl, sym, ap, subst, ◌∙◌}
 use mathlib.Core.Bool.{Bool, true, false, ◌||◌}
 use mathlib.Core.Logic.{◌⊎◌, inl, inr}
 use mathlib.Core.List.{List}
-use Prim.Native.Nat.{ℕ, zero, suc, ◌+◌, ◌-◌, ◌/◌, ◌%◌, ◌≤◌, ◌<◌, min}
+use Prim.Native.Nat.{ℕ, suc, ◌+◌, ◌-◌, ◌/◌, ◌≤◌, ◌<◌, min}
 use native.Mathlib.Decide.{ℕ_discrete}
 use native.Mathlib.Omega.{arith}
 use borrow.Author.Tests.{ltb-true, ltb-false, eqb-true}
@@ -15,7 +15,7 @@ use Rattle.lists.specs.Total.{total}
 use Rattle.lists.proofs.TestLaws.{by, differ, or-none}
 use Rattle.grid.specs.Rows.{at}
 use Rattle.grid.proofs.RowLaws.{total-set}
-use Rattle.sweeps.specs.Tables.{wide_lines, wide_crossings, arc_bound, far, offset, source, left_of, Arc, Reach, here, over, ArcsFit}
+use Rattle.sweeps.specs.Tables.{wide_crossings, arc_bound, far, offset, source, left_of, Reach, here, over, ArcsFit}
 use Rattle.sweeps.specs.Tables.{Row, Above, Still, Passed, Quiet, fall, taken, TakenOff, Lessened, LeastAt}
 use Rattle.sweeps.specs.Tables.{SweptTable, last, raise}
 
@@ -52,17 +52,6 @@ there-or-none left a = pick (ℕ_discrete (at left a) 0)
 
 there : (left : List ℕ) (a : ℕ) → 1 ≤ at left a → eqb (at left a) 0 ≡ false
 there left a some = by (eqb (at left a) 0) (λ e. let z : ⊥ = omega (arith, some, eqb-true (at left a) 0 e) in absurd z) (λ e. e)
-
--- a visit that changes nothing
-pub visit-idle : (left : List ℕ) (cap : ℕ) (t : List ℕ) (a : ℕ) → Row t → Still left cap t a → Passed left cap (λ b. b ≡ a) false t t
-visit-idle left cap t a row s = record {
-  row = row;
-  below = λ v. omega arith;
-  above = λ p h. h;
-  less = λ k. differ k refl;
-  same = λ k. refl;
-  still = λ k b i. rw i s;
-}
 
 module _ (left : List ℕ) (fit : ArcsFit left) (t : List ℕ) (row : Row t) (a : ℕ) (inside : a < arc_bound) where
   -- the visit of an arc that lowers a height
@@ -181,23 +170,6 @@ module _ (left : List ℕ) (cap : ℕ) (s t u : List ℕ) (a : ℕ) (moved m : B
       pick b i (no n) = inl (omega (arith, i.0, n, f), i.1)
 
 -- Passes until one changes nothing
-
-unfoldable pub measure : List ℕ → Bool → ℕ
-measure t true = suc (total t + total t)
-measure t false = total t + total t
-
-pub settle-less : (left : List ℕ) (cap : ℕ) (s t u : List ℕ) (F G : ℕ → Type 0) (k m more : Bool) → more ≡ true → Passed left cap F k s t →
-    Passed left cap G m t u →
-    measure u m < measure s more
-unfolding measure
-settle-less left cap s t u F G k m false h p q = differ h refl
-settle-less left cap s t u F G k m true h p q = at k m p q
-  where
-    at : (k m : Bool) → Passed left cap F k s t → Passed left cap G m t u → measure u m < suc (total s + total s)
-    at true true p q = omega (arith, p.less refl, q.less refl)
-    at true false p q = let z = ap total (q.same refl) in omega (arith, p.less refl, z)
-    at false true p q = let z = ap total (p.same refl) in omega (arith, z, q.less refl)
-    at false false p q = let z = ap total (p.same refl) in let y = ap total (q.same refl) in omega (arith, z, y)
 
 -- what holds between passes: the cap is no less than a height at one of the crossings, or stands for no way
 module _ (left : List ℕ) (e q : ℕ) (numbers : List ℕ) (n : ℕ) where

@@ -4,7 +4,7 @@
 // of its cost and one more, 0 where there is no edge. A row has a height for each crossing.
 #![tactic(auto)]
 
-ghost use Rattle.std.specs.Prelude.{◌≡◌, ◌+◌, ◌/◌, ◌%◌, ◌≤◌, ◌<◌, min, length, replicate};
+ghost use Rattle.std.specs.Prelude.{◌≡◌, ◌+◌, ◌/◌, ◌%◌, ◌≤◌, ◌<◌, length, replicate};
 ghost use Rattle.grid.specs.Rows.{at, Below};
 ghost use Rattle.sweeps.specs.Tables.{
   wide_lines,
@@ -25,6 +25,8 @@ ghost use Rattle.sweeps.specs.Tables.{
   SweptTable,
 };
 
+use net::Net;
+
 // The bounds of the tables.
 #[derive(Clone, Copy)]
 pub struct Wide {
@@ -44,19 +46,16 @@ impl Wide {
 }
 
 // How far the number of the neighbour in a direction is above that of the crossing one line further left.
+#[tactic(auto, unfolding(crate::specs::Tables::offset))]
 fn offset(i: usize) -> usize
     ensures { (result ≡ offset i) × (result ≤ 768) }
 {
-    if i == 0 {
-        return 768;
+    match i {
+        0 => 768,
+        1 => 0,
+        2 => 385,
+        _ => 383,
     }
-    if i == 1 {
-        return 0;
-    }
-    if i == 2 {
-        return 385;
-    }
-    383
 }
 
 // The crossing that an arc comes from.
@@ -82,7 +81,7 @@ fn visit(left: &[u32], row: &mut [u64], cap: u64, a: usize) -> bool
         return false;
     }
     let u = source(a);
-    let x = d + (s - 1) as u64;
+    let x = d + u64::from(s - 1);
     if x < row[u] {
         row[u] = x;
         return true;
@@ -96,11 +95,8 @@ fn pass_up(left: &[u32], row: &mut [u64], cap: u64, e: usize) -> bool
     ensures { Passed left.now cap (λ a. a < e) result row.old row.new }
 {
     let mut moved = false;
-    let mut a = 0;
-    while a < e {
-        let m = visit(left, &mut *row, cap, a);
-        moved = moved | m;
-        a += 1;
+    for a in 0..e {
+        moved |= visit(left, row, cap, a);
     }
     moved
 }
@@ -111,11 +107,8 @@ fn pass_down(left: &[u32], row: &mut [u64], cap: u64, e: usize) -> bool
     ensures { Passed left.now cap (λ a. a < e) result row.old row.new }
 {
     let mut moved = false;
-    let mut a = e;
-    while 0 < a {
-        a -= 1;
-        let m = visit(left, &mut *row, cap, a);
-        moved = moved | m;
+    for a in (0..e).rev() {
+        moved |= visit(left, row, cap, a);
     }
     moved
 }
@@ -125,11 +118,7 @@ pub fn fill(row: &mut [u64], x: u64)
     requires { length row.old ≡ wide_crossings }
     ensures { row.new ≡ replicate wide_crossings x }
 {
-    let mut v = 0;
-    while v < Wide::CROSSINGS {
-        row[v] = x;
-        v += 1;
-    }
+    row.fill(x);
 }
 
 // The row that crossing q starts with: 0 there, and no way elsewhere.
@@ -137,30 +126,19 @@ fn start(row: &mut [u64], q: usize)
     requires { (length row.old ≡ wide_crossings) × (q < wide_crossings) }
     ensures { (Row row.new) × ((left : _) → Above left q row.new) }
 {
-    fill(&mut *row, Wide::FAR);
+    fill(row, Wide::FAR);
     row[q] = 0;
 }
 
-fn least(a: u64, b: u64) -> u64
-    ensures { result ≡ min a b }
-{
-    if a < b {
-        return a;
-    }
-    b
-}
-
 // The least height at the first n of some crossings.
-fn nearest(row: &[u64], numbers: &[usize; 128], n: usize) -> u64
+fn nearest(row: &[u64], numbers: &[usize; Net::PINS], n: usize) -> u64
     requires row { (Row row.now) × ((n ≤ 128) × (length numbers.now ≡ 128)) }
     requires below { Below wide_crossings numbers.now }
     ensures { LeastAt row.now numbers.now n result }
 {
     let mut t = Wide::FAR;
-    let mut i = 0;
-    while i < n {
-        t = least(row[numbers[i]], t);
-        i += 1;
+    for i in 0..n {
+        t = row[numbers[i]].min(t);
     }
     t
 }
@@ -169,7 +147,7 @@ fn nearest(row: &[u64], numbers: &[usize; 128], n: usize) -> u64
 fn settle(
     left: &[u32],
     row: &mut [u64],
-    numbers: &[usize; 128],
+    numbers: &[usize; Net::PINS],
     n: usize,
     e: usize,
     q: usize,
@@ -181,13 +159,14 @@ fn settle(
     ensures least_at { (LeastAt row.new numbers.now n result) × (Quiet left.now e result row.new) }
 {
     let mut cap = Wide::FAR;
-    let mut more = true;
-    while more {
-        pass_down(left, &mut *row, cap, e);
-        more = pass_up(left, &mut *row, cap, e);
-        cap = nearest(&*row, numbers, n);
+    loop {
+        pass_down(left, row, cap, e);
+        let more = pass_up(left, row, cap, e);
+        cap = nearest(row, numbers, n);
+        if !more {
+            return cap;
+        }
     }
-    cap
 }
 
 // Arc a with the fall of the heights, cut at t, taken off.
@@ -204,7 +183,7 @@ fn take_off(left: &mut [u32], row: &[u64], t: u64, a: usize)
     if s == 0 {
         return;
     }
-    let high = least(row[source(a)], t);
+    let high = row[source(a)].min(t);
     if low < high {
         left[a] = s - (high - low) as u32;
     }
@@ -216,15 +195,13 @@ fn lessen(left: &mut [u32], row: &[u64], t: u64, e: usize)
     requires quiet { Quiet left.old e t row.now }
     ensures { Lessened row.now t e left.old left.new }
 {
-    let mut a = 0;
-    while a < e {
-        take_off(&mut *left, row, t, a);
-        a += 1;
+    for a in 0..e {
+        take_off(left, row, t, a);
     }
 }
 
 // One raise: the heights above crossing i until the nearest of those before it, taken off what is left; how high.
-fn raise(left: &mut [u32], row: &mut [u64], numbers: &[usize; 128], i: usize, e: usize) -> u64
+fn raise(left: &mut [u32], row: &mut [u64], numbers: &[usize; Net::PINS], i: usize, e: usize) -> u64
     requires arcs_fit { (ArcsFit left.old) × ((length row.old ≡ wide_crossings) × (e ≤ arc_bound)) }
     requires i_bound { (i < 128) × ((length numbers.now ≡ 128) × (Below wide_crossings numbers.now)) }
     ensures row { (Row row.new) × ((Above left.old (at numbers.now i) row.new)
@@ -234,25 +211,28 @@ fn raise(left: &mut [u32], row: &mut [u64], numbers: &[usize; 128], i: usize, e:
     ensures arcs_fit_2 { ArcsFit left.new }
 {
     let q = numbers[i];
-    start(&mut *row, q);
-    let t = settle(&*left, &mut *row, numbers, i, e, q);
-    lessen(&mut *left, &*row, t, e);
+    start(row, q);
+    let t = settle(left, row, numbers, i, e, q);
+    lessen(left, row, t, e);
     t
 }
 
 // The sum of the raises of the first m of some crossings, the last one first, each until it meets one before it.
-pub fn sweep(left: &mut [u32], row: &mut [u64], numbers: &[usize; 128], m: usize, e: usize) -> u64
+pub fn sweep(
+    left: &mut [u32],
+    row: &mut [u64],
+    numbers: &[usize; Net::PINS],
+    m: usize,
+    e: usize,
+) -> u64
     requires arcs_fit { (ArcsFit left.old) × ((length row.old ≡ wide_crossings) × (e ≤ arc_bound)) }
     requires m_bound { (m ≤ 128) × ((length numbers.now ≡ 128) × (Below wide_crossings numbers.now)) }
     ensures swept_table { SweptTable numbers.now e left.old m result }
     ensures row_len { (length row.new ≡ wide_crossings) × (ArcsFit left.new) }
 {
     let mut sum = 0;
-    let mut i = m;
-    while 1 < i {
-        i -= 1;
-        let t = raise(&mut *left, &mut *row, numbers, i, e);
-        sum += t;
+    for i in (1..m).rev() {
+        sum += raise(left, row, numbers, i, e);
     }
     sum
 }

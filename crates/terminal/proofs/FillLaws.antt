@@ -2,13 +2,13 @@
 -- Assumes nothing.
 use mathlib.Core.Path.{◌≡◌, sym, ap, ◌∙◌}
 use mathlib.Core.List.{List, [], ◌∷◌, ◌++◌, map, append-nil, map-append}
-use Prim.Native.Nat.{ℕ, suc, ◌+◌, ◌-◌, ◌≤◌, ◌<◌}
+use Prim.Native.Nat.{ℕ, suc, ◌+◌, ◌≤◌, ◌<◌}
 use native.Mathlib.Numerals.{add-one}
 use native.Mathlib.Omega.{arith}
 use lib.ListN.{length, get_or, set, take, length-append, length-map}
 use lib.Seq.{sets, append_snoc, take-suc, take_all, length-take-le}
 use Rattle.lent.specs.Over.{over}
-use Rattle.lent.specs.Entries.{flat, entries}
+use Rattle.lent.specs.Entries.{flat}
 use Rattle.lent.proofs.OverLaws.{over_none, over-more}
 use Rattle.lent.proofs.EntryTable.{flat_append}
 

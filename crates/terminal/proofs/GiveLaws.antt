@@ -6,7 +6,7 @@ use Prim.Native.Nat.{ℕ, zero, suc, ◌+◌, ◌*◌, ◌≤◌}
 use native.Mathlib.Numerals.{add-one}
 use native.Mathlib.Omega.{arith}
 use lib.IntN.{ℤ}
-use lib.ListN.{length, get_or, set, length-map}
+use lib.ListN.{length, get_or, length-map}
 use lib.Seq.{sets}
 use Rattle.lent.specs.Over.{over}
 use Rattle.lent.specs.Entries.{flat}
@@ -18,16 +18,6 @@ use Rattle.forest.proofs.EdgeLaws.{length_from}
 use Rattle.terminal.specs.Tree.{path_numbers}
 use Rattle.terminal.specs.Tables.{path_at, paths_in}
 use Rattle.terminal.proofs.FillLaws.{flat-more}
-
--- five numbers stored one after the other
-pub five-stored : (l : List ℤ) (k : ℕ) (a b c d e : ℤ) {a' b' c' d' e' : ℤ} → a ≡ a' → b ≡ b' → c ≡ c' → d ≡ d' → e ≡ e'
-    → set (set (set (set (set l k a) (k + 1) b) (k + 2) c) (k + 3) d) (k + 4) e ≡ sets l k (a' ∷ (b' ∷ (c' ∷ (d' ∷ (e' ∷ [])))))
-five-stored l k a b c d e p q r s t =
-    let one : k + 1 ≡ suc k = omega arith in
-    let two : k + 2 ≡ suc (suc k) = omega arith in
-    let three : k + 3 ≡ suc (suc (suc k)) = omega arith in
-    let four : k + 4 ≡ suc (suc (suc (suc k))) = omega arith in
-    rw (p, q, r, s, t, one, two, three, four) refl
 
 from_more : (k n : ℕ) → from k (suc n) ≡ from k n ++ ((k + n) ∷ [])
 unfolding from

@@ -20,8 +20,7 @@ use Rattle.plane.proofs.CostLaws.{cost-comm}
 use Rattle.net.specs.Allowed.{Allowed}
 use Rattle.net.specs.Net.{Net, cost_in}
 use Rattle.graph.specs.Spanning.{vertices_of, spanning}
-use Rattle.graph.specs.Vertices.{vertices}
-use Rattle.graph.specs.Edges.{before_edge, edges}
+use Rattle.graph.specs.Edges.{before_edge}
 use Rattle.graph.proofs.VertexLaws.{pin-vertex, vertices-ascending}
 use Rattle.graph.proofs.EdgeLaws.{Edge, edge_order}
 use Rattle.graph.proofs.GraphBounds.{edge-bound, few-vertices, few-edges, spanning-ascending, spanning-edge, edge-least}

@@ -1,6 +1,5 @@
 -- The terminal tree of a net: rules T6 to T16.
 use Rattle.std.specs.Prelude.{List, [], ◌∷◌, map, ℕ, ℤ, pos, length}
-use Rattle.lists.specs.Total.{total}
 use Rattle.plane.specs.declared.Place.{Place}
 use Rattle.net.specs.Net.{Net}
 use Rattle.graph.specs.Spanning.{vertices_of, spanning}

@@ -3,19 +3,18 @@
 use mathlib.Core.Path.{◌≡◌, refl, sym, ap, ◌∙◌}
 use mathlib.Core.Bool.{true, false}
 use mathlib.Core.List.{List, [], ◌∷◌, ◌++◌}
-use Prim.Native.Nat.{ℕ, zero, suc, ◌+◌, ◌-◌, ◌/◌, ◌%◌, ◌^◌, ◌≤◌, ◌<◌}
+use Prim.Native.Nat.{ℕ, zero, suc, ◌+◌, ◌/◌, ◌%◌, ◌^◌, ◌≤◌, ◌<◌}
 use native.Mathlib.Nat.{pow-suc}
 use native.Mathlib.Omega.{arith}
 use borrow.Author.Tests.{ltb-true, ltb-false, lt-ltb, le-ltb}
 use lib.Dec.{ltb}
-use lib.IntN.{ℤ, pos, negsuc, nat_abs, ◌+ℤ◌, ◌-ℤ◌}
+use lib.IntN.{ℤ, pos, negsuc, nat_abs}
 use lib.ListN.{length, length-append}
 use lib.Signed.{lt_z}
 use mir.Syntax.{w64}
-use mir.Val.{Fits, SFits, to_z, of_z}
-use mir.ValLaws.{to_z-of_z}
+use mir.Val.{SFits}
 use Rattle.lists.proofs.TestLaws.{by, differ}
-use Rattle.signed.proofs.SideLaws.{signed, one_side, of-sfits, to-sfits, add-sides, sub-sides, abs-sides, up_pos, down_pos, eq_of}
+use Rattle.signed.proofs.SideLaws.{one_side, of-sfits, abs-sides}
 use Rattle.text.specs.Text.{digits_in, decimal, whole}
 
 -- Digits
@@ -81,47 +80,3 @@ whole_above (negsuc n) e = differ refl e
 -- an i64 is at most 2^63 from zero, which has 19 digits
 pub far-short : (z : ℤ) → SFits w64 z → length (decimal (nat_abs z)) ≤ 19
 far-short z f = decimal-short 18 (nat_abs z) (omega (arith, of-sfits w64 z f, abs-sides z, one_side z))
-
-pub above-fits : (z : ℤ) → SFits w64 z → Fits w64 (nat_abs z)
-above-fits z f = record { fits = omega (arith, of-sfits w64 z f, abs-sides z, one_side z) }
-
--- One more than a number below zero, turned round
-
-module _ (z : ℤ) (f : SFits w64 z) (e : lt_z z (pos 0) ≡ true) where
-  pub one-more-fits : SFits w64 (to_z w64 (of_z w64 z) +ℤ pos 1)
-  one-more-fits =
-      rw (to_z-of_z w64 z f)
-      (to-sfits w64 (z +ℤ pos 1)
-      (omega (signed, add-sides z (pos 1), one_side (z +ℤ pos 1), of-sfits w64 z f, up_pos 0, down_pos 0, up_pos 1, down_pos 1))
-      (omega (signed, add-sides z (pos 1), one_side (z +ℤ pos 1), of-sfits w64 z f, up_pos 0, down_pos 0, up_pos 1, down_pos 1)))
-
-  turned_round : pos 0 -ℤ (z +ℤ pos 1) ≡ pos (nat_abs z - 1)
-  turned_round =
-      eq_of _ _
-      (omega (
-        signed,
-        add-sides z (pos 1),
-        sub-sides (pos 0) (z +ℤ pos 1),
-        one_side z,
-        abs-sides z,
-        up_pos 0,
-        down_pos 0,
-        up_pos 1,
-        down_pos 1,
-        up_pos (nat_abs z - 1),
-        down_pos (nat_abs z - 1),
-      ))
-
-  turned-machine : pos 0 -ℤ to_z w64 (of_z w64 (to_z w64 (of_z w64 z) +ℤ pos 1)) ≡ pos (nat_abs z - 1)
-  turned-machine =
-      ap (λ (y : ℤ). pos 0 -ℤ y) (to_z-of_z w64 _ one-more-fits ∙ ap (λ (y : ℤ). y +ℤ pos 1) (to_z-of_z w64 z f)) ∙ turned_round
-
-  pub turned-fits : SFits w64 (pos 0 -ℤ to_z w64 (of_z w64 (to_z w64 (of_z w64 z) +ℤ pos 1)))
-  turned-fits = rw turned-machine (record { sfits = omega (arith, of-sfits w64 z f, abs-sides z, one_side z) })
-
-  pub turned-is : to_z w64 (of_z w64 (pos 0 -ℤ to_z w64 (of_z w64 (to_z w64 (of_z w64 z) +ℤ pos 1)))) ≡ pos (nat_abs z - 1)
-  turned-is = to_z-of_z w64 _ turned-fits ∙ turned-machine
-
-  -- it is at least one from zero, and one more fits again
-  pub far-enough : (1 ≤ nat_abs z) × (nat_abs z < 2 ^ 64)
-  far-enough = (omega (signed, abs-sides z, up_pos 0, down_pos 0), omega (arith, of-sfits w64 z f, abs-sides z, one_side z))

@@ -99,17 +99,9 @@ touch-ends k v e = at (ℕ_discrete (k / 2) v)
 -- The four segments at a crossing
 
 module _ (v i : ℕ) where
-  pub segment-none-across : i ≡ 0 → v < line_bound → segment_at v i ≡ segment_bound
-  unfolding segment_at
-  segment-none-across e h = rw (segment_at, eq-eqb i 0 e, lt-ltb v line_bound h) refl
-
   pub segment-across : i ≡ 0 → line_bound ≤ v → segment_at v i ≡ (v - line_bound) * 2
   unfolding segment_at
   segment-across e h = rw (segment_at, eq-eqb i 0 e, le-ltb v line_bound h) refl
-
-  pub segment-none-along : (i ≡ 0 → ⊥) → i ≡ 1 → v ≡ 0 → segment_at v i ≡ segment_bound
-  unfolding segment_at
-  segment-none-along n e h = rw (segment_at, ne_eqb i 0 n, eq-eqb i 1 e, eq-eqb v 0 h) refl
 
   pub segment-along : (i ≡ 0 → ⊥) → i ≡ 1 → (v ≡ 0 → ⊥) → segment_at v i ≡ v * 2 - 1
   unfolding segment_at
@@ -215,13 +207,6 @@ module _ (m : ℕ) (work : List ℕ) (s v p : ℕ) where
 module _ (costs : List ℕ) (e : ℕ) (row : List ℕ) (v : ℕ) where
   abbrev pub NoneTo : ℕ → Type 0
   NoneTo i = (j : ℕ) → j < i → segment_at v j < e → leads costs row v (segment_at v j) ≡ false
-
-  pub none_more : (i k : ℕ) → k ≡ segment_at v i → NoneTo i → (k < e → leads costs row v k ≡ false) → NoneTo (i + 1)
-  none_more i k is h f j l = at (ℕ_discrete j i)
-    where
-      at : Dec (j ≡ i) → segment_at v j < e → leads costs row v (segment_at v j) ≡ false
-      at (yes d) = subst (λ (z : ℕ). z < e → leads costs row v z ≡ false) (is ∙ ap (segment_at v) (sym d)) f
-      at (no n) = h j (omega (arith, l, n))
 
   pub none_end : (i : ℕ) → 4 ≤ i → NoneTo i → (k : ℕ) → k < e → leads costs row v k ≡ false
   none_end i h n k l = by (touches k v) (λ t. met (touch-four k v t)) (λ t. leads-away costs row v k t)

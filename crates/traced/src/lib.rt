@@ -1,7 +1,7 @@
 // A tree read back from the rows of a table of costs: its edges marked, in the order of edges.
 #![tactic(auto)]
 
-ghost use Rattle.std.specs.Prelude.{◌≡◌, ◌+◌, ◌≤◌, ◌<◌, length};
+ghost use Rattle.std.specs.Prelude.{◌≡◌, ◌+◌, ◌≤◌, ◌<◌, length, MatchOption};
 ghost use Rattle.lines.specs.Bounds.{crossing_bound, segment_bound};
 ghost use Rattle.grid.specs.Tables.{Row, Fits};
 ghost use Rattle.parts.specs.Bounds.{mask_bound};
@@ -29,10 +29,7 @@ pub fn in_order(k: usize) -> usize
     requires { k < segment_bound }
     ensures { (result ≡ in_their_order k) × (result < segment_bound) }
 {
-    if k % 2 == 0 {
-        return k + 1;
-    }
-    k - 1
+    if k % 2 == 0 { k + 1 } else { k - 1 }
 }
 
 // The other end of segment k.
@@ -40,10 +37,7 @@ fn other_end(k: usize, v: usize) -> usize
     requires { k < segment_bound }
     ensures { result ≡ other_end k v }
 {
-    if k / 2 == v {
-        return grid::target(k);
-    }
-    k / 2
+    if k / 2 == v { grid::target(k) } else { k / 2 }
 }
 
 // Whether v is an end of segment k.
@@ -51,8 +45,7 @@ fn touches(k: usize, v: usize) -> bool
     requires { k < segment_bound }
     ensures { result ≡ touches k v }
 {
-    let b = grid::target(k);
-    (k / 2 == v) | (b == v)
+    k / 2 == v || grid::target(k) == v
 }
 
 // Whether segment k is an edge at v by which the number at v is had.
@@ -68,60 +61,46 @@ fn leads(
     ensures { result ≡ leads costs.now row.now v k }
 {
     let c = costs[k];
-    if c == 0 {
-        return false;
-    }
-    if !touches(k, v) {
-        return false;
-    }
-    row[other_end(k, v)] + c == row[v]
+    c != 0 && touches(k, v) && row[other_end(k, v)] + c == row[v]
 }
 
-// The four segments at v, in the order of their numbers: the i-th, or one past all where it would come from outside the lines.
-fn segment_at(v: usize, i: usize) -> usize
+// The four segments at v, in the order of their numbers: the i-th, unless it would come from outside the lines.
+#[tactic(auto, unfolding(crate::specs::Routes::segment_at))]
+fn segment_at(v: usize, i: usize) -> Option<usize>
     requires { (v < crossing_bound) × (i < 4) }
-    ensures { result ≡ segment_at v i }
+    ensures { MatchOption result (segment_at v i ≡ segment_bound) (λ k. k ≡ segment_at v i) }
 {
-    if i == 0 {
-        if v < Grid::LINES {
-            return Grid::SEGMENTS;
-        }
-        return (v - Grid::LINES) * 2;
+    match i {
+        0 => Some(v.checked_sub(Grid::LINES)? * 2),
+        1 => (v * 2).checked_sub(1),
+        _ => Some(v * 2 + (i - 2)),
     }
-    if i == 1 {
-        if v == 0 {
-            return Grid::SEGMENTS;
-        }
-        return v * 2 - 1;
-    }
-    v * 2 + (i - 2)
 }
 
-// A segment by which the number at v is had; e where there is none.
+// A segment by which the number at v is had, if there is one.
 fn step_from(
     costs: &[u32; Grid::SEGMENTS],
     e: usize,
     row: &[u32; Grid::CROSSINGS],
     v: usize,
-) -> usize
+) -> Option<usize>
     requires fits { Fits costs.now e }
     requires row { (Row row.now) × (v < crossing_bound) }
-    ensures { StepFound costs.now e row.now v result }
+    ensures { MatchOption result (StepFound costs.now e row.now v e) (λ k. (k < e) × StepFound costs.now e row.now v k) }
 {
-    let mut i = 0;
-    while i < 4 {
-        let k = segment_at(v, i);
-        i += 1;
-        if k < e {
-            if leads(costs, e, row, v, k) {
-                return k;
-            }
+    for i in 0..4 {
+        if let Some(k) = segment_at(v, i)
+            && k < e
+            && leads(costs, e, row, v, k)
+        {
+            return Some(k);
         }
     }
-    e
+    None
 }
 
 // Down a row from v as far as it goes, the edges marked; the crossing where it ends.
+// Kept: marks are numbers, as `Marked` and `marks` say, which theorems name.
 fn walk(
     costs: &[u32; Grid::SEGMENTS],
     e: usize,
@@ -134,12 +113,9 @@ fn walk(
     ensures { (Walked costs.now e row.now v result used.old used.new) × (result < crossing_bound) }
 {
     let mut u = v;
-    let mut k = step_from(costs, e, row, u);
-    while k < e {
-        let j = in_order(k);
-        used[j] = 1;
+    while let Some(k) = step_from(costs, e, row, u) {
+        used[in_order(k)] = 1;
         u = other_end(k, u);
-        k = step_from(costs, e, row, u);
     }
     u
 }
@@ -152,25 +128,20 @@ fn meets(work: &[u32], m: usize, s: usize, v: usize, p: usize) -> bool
     requires le_p { (1 ≤ p) × (p < s) }
     ensures { result ≡ meets m work.now s v p }
 {
-    if !parts::is_part(m, p, s) {
-        return false;
-    }
-    parts::sum_at(work, p, s - p, v) == work[s * Grid::CROSSINGS + v]
+    parts::is_part(m, p, s) && parts::sum_at(work, p, s - p, v) == work[s * Grid::CROSSINGS + v]
 }
 
-// A part of s by which its number at v is had; 0 where there is none.
-fn part_from(work: &[u32], m: usize, s: usize, v: usize) -> usize
+// A part of s by which its number at v is had, if there is one.
+fn part_from(work: &[u32], m: usize, s: usize, v: usize) -> Option<usize>
     requires { (RowsTo (s + 1) work.now) × ((s < mask_bound) × (v < crossing_bound)) }
-    ensures { PartFound m work.now s v result }
+    ensures { MatchOption result (PartFound m work.now s v 0) (λ p. (1 ≤ p) × PartFound m work.now s v p) }
 {
-    let mut p = 1;
-    while p < s {
+    for p in 1..s {
         if meets(work, m, s, v, p) {
-            return p;
+            return Some(p);
         }
-        p += 1;
     }
-    0
+    None
 }
 
 // The edges of a tree that joins v with the pins of s marked: down the row of s, then the trees of two parts. The set falls.
@@ -189,11 +160,10 @@ fn trace(
 {
     let mut row = [0u32; Grid::CROSSINGS];
     parts::get_row(work, s, &mut row);
-    let u = walk(costs, e, &row, v, &mut *used);
-    let p = part_from(work, m, s, u);
-    if 0 < p {
-        trace(work, costs, e, m, p, u, &mut *used);
-        trace(work, costs, e, m, s - p, u, &mut *used);
+    let u = walk(costs, e, &row, v, used);
+    if let Some(p) = part_from(work, m, s, u) {
+        trace(work, costs, e, m, p, u, used);
+        trace(work, costs, e, m, s - p, u, used);
     }
 }
 
@@ -214,6 +184,6 @@ pub fn read_back(
     if n < 2 {
         return 0;
     }
-    trace(work, costs, e, m, n - 1, v, &mut *used);
-    work[(n - 1) * Grid::CROSSINGS + v] as u64
+    trace(work, costs, e, m, n - 1, v, used);
+    u64::from(work[(n - 1) * Grid::CROSSINGS + v])
 }

@@ -1,5 +1,5 @@
-// The tables of a tree, which union, refiner and refined share: its points in the order of places, two numbers each, and its edges as keys
-// of their ends' numbers, in the order of edges.
+// The tables of a tree, from union to delay: its points in the order of places, two numbers each, and its edges as keys of their ends'
+// numbers, in the order of edges.
 #![tactic(auto)]
 
 ghost use Rattle.std.specs.Prelude.{◌≡◌, ◌<◌};
@@ -26,10 +26,7 @@ pub fn point_at(pts: &[i32; NUMBERS], i: usize) -> Place
     requires { i < tree_bound }
     ensures { result ≡ place_at pts.now i }
 {
-    Place {
-        x: pts[i * 2],
-        y: pts[i * 2 + 1],
-    }
+    plane::place_at(pts, i)
 }
 
 // p as the place of point i.
@@ -37,8 +34,5 @@ pub fn put_point(pts: &mut [i32; NUMBERS], i: usize, p: Place)
     requires { i < tree_bound }
     ensures { pts.new ≡ set_point pts.old i p }
 {
-    let x = p.x;
-    let y = p.y;
-    pts[i * 2] = x;
-    pts[i * 2 + 1] = y;
+    plane::put_place(pts, i, p);
 }

@@ -12,7 +12,7 @@ use slide::Side;
 use straight::{NUMBERS, POINTS};
 
 // A place as a bar has it that moves to a side: along its line, and across it, rising towards the side.
-#[derive(Clone, Copy)]
+#[derive(Clone, Copy, PartialEq, Eq, Debug)]
 pub struct Spot {
     pub along: u64,
     pub across: u64,
@@ -42,14 +42,14 @@ const ZERO: i64 = 2147483648;
 fn raised(z: i32) -> u64
     ensures { (result ≡ raised z) × (result ≤ 2 ^ 32) }
 {
-    (z as i64 + ZERO) as u64
+    (i64::from(z) + ZERO).cast_unsigned()
 }
 
 // The same of a coordinate turned round.
 fn turned(z: i32) -> u64
     ensures { (result ≡ raised (pos 0 -ℤ z)) × (result ≤ 2 ^ 32) }
 {
-    (ZERO - z as i64) as u64
+    (ZERO - i64::from(z)).cast_unsigned()
 }
 
 pub fn spot_of(s: Side, p: Place) -> Spot
@@ -104,49 +104,6 @@ pub fn face_of(s: Side, m: Macro) -> Face
             far: turned(m.left),
         },
     }
-}
-
-pub fn smaller(a: u64, b: u64) -> u64
-    ensures { result ≡ min a b }
-{
-    if a < b {
-        return a;
-    }
-    b
-}
-
-pub fn greater(a: u64, b: u64) -> u64
-    ensures { result ≡ max a b }
-{
-    if a < b {
-        return b;
-    }
-    a
-}
-
-// How far b lies beyond a, 0 if it does not.
-pub fn beyond(a: u64, b: u64) -> u64
-    ensures { result ≡ b - a }
-{
-    if a < b {
-        return b - a;
-    }
-    0
-}
-
-pub fn gap(a: u64, b: u64) -> u64
-    ensures { result ≡ gap a b }
-{
-    if a < b {
-        return b - a;
-    }
-    a - b
-}
-
-pub fn is_same(a: Spot, b: Spot) -> bool
-    ensures { result ≡ same_spot a b }
-{
-    (a.along == b.along) & (a.across == b.across)
 }
 
 pub fn spot_at(pts: &[i32; NUMBERS], s: Side, i: usize) -> Spot
@@ -218,5 +175,5 @@ pub fn is_behind(e: Seen) -> bool
 pub fn long(e: Seen) -> u64
     ensures { result ≡ long_of e }
 {
-    gap(e.from.across, e.to.across)
+    e.from.across.abs_diff(e.to.across)
 }

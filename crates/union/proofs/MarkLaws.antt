@@ -250,6 +250,10 @@ module _ (code : ℕ → ℕ) (t lent : List ℕ) where
           written = s.written ∙ ap (λ (m : List ℕ). over (map code m) lent) (sym (marks-miss t i e));
         }
 
+    -- a marked one finds room where there is room for all of n
+    pub key-room : (n m : ℕ) → i < n → 0 < get_or t i 0 → length (marks t n) ≤ m → c < m
+    key-room n m h l r = omega (arith, marks-room t i n h (lt-ltb 0 (get_or t i 0) l), s.count)
+
     pub key_more : 0 < get_or t i 0 → c < length lent → Keying code t lent (i + 1) (c + 1) (set keys c (code i))
     key_more l r =
         let e : is_marked t i ≡ true = lt-ltb 0 (get_or t i 0) l in

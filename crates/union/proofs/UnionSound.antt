@@ -47,7 +47,7 @@ use Rattle.terminal.specs.Number.{edge_at, number_of, vertex_at, pin_numbers}
 use Rattle.terminal.specs.Tree.{graph_of, tree_of, total_of}
 use Rattle.terminal.proofs.NumberLaws.{vertex-in, count_of, one_of, vertex-order, vertex-of-number, pin-number-in}
 use Rattle.terminal.proofs.SettingOf.{setting, whole, edge-at, one-vertex, two-vertex}
-use Rattle.tree.specs.Table.{key, first_end, second_end, tree_bound, Tree}
+use Rattle.tree.specs.Table.{key, first_end, second_end, tree_bound}
 use Rattle.tree.specs.Places.{ends_of, points_of, edges_of, key_cost, Ranked, Sound}
 use Rattle.tree.specs.Places.{tree_total}
 use Rattle.tree.specs.Sum.{below}

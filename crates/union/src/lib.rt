@@ -18,7 +18,6 @@ ghost use Rattle.union.specs.Union.{both_ends, kept_edges, start_of};
 ghost use Rattle.union.specs.Marks.{marked, marks, Ranking, Startable};
 
 use net::Net;
-use plane::Place;
 use tree::Size;
 
 // The bounds of the tables are the net's.
@@ -27,6 +26,8 @@ pub const POINTS: usize = Net::POINTS;
 pub const EDGES: usize = Net::EDGES;
 
 pub const VERTEX_NUMBERS: usize = POINTS * 2;
+
+// Kept: marks are numbers, 1 in a table of zeros, and a parent POINTS means none: `marked` and `orphans`, which theorems name, say so.
 
 // The edges on v's way to its root marked. The distance, which falls by el along each edge, falls with each call.
 fn mark_way(
@@ -43,7 +44,7 @@ fn mark_way(
     let u = up[v];
     if u < POINTS {
         on[via[v]] = 1;
-        mark_way(el, far, up, via, u, &mut *on);
+        mark_way(el, far, up, via, u, on);
     }
 }
 
@@ -63,9 +64,9 @@ fn mark_path(
     ensures { on.new ≡ marked (way far.now (parents up.now via.now) a
         ++ (k ∷ way far.now (parents up.now via.now) b)) on.old }
 {
-    mark_way(el, far, up, via, a, &mut *on);
+    mark_way(el, far, up, via, a, on);
     on[k] = 1;
-    mark_way(el, far, up, via, b, &mut *on);
+    mark_way(el, far, up, via, b, on);
 }
 
 // The edges of the first `count` kept paths.
@@ -86,11 +87,8 @@ fn mark_paths(
     ensures { on.new ≡ marked (kept_edges (graph ea.now eb.now el.now e) far.now
         (parents up.now via.now) (entries kept.now 0 count)) on.old }
 {
-    let mut i = 0;
-    while i < count {
-        let k = kept[i];
-        mark_path(el, far, up, via, ea[k], eb[k], k, &mut *on);
-        i += 1;
+    for &k in &kept[..count] {
+        mark_path(el, far, up, via, ea[k], eb[k], k, on);
     }
 }
 
@@ -99,11 +97,8 @@ fn mark_pins(pin: &[usize; POINTS], m: usize, at: &mut [usize; POINTS])
     requires { (m ≤ point_bound) × (FirstBelow pin.now m point_bound) }
     ensures { at.new ≡ marked (entries pin.now 0 m) at.old }
 {
-    let mut i = 0;
-    while i < m {
-        let v = pin[i];
+    for &v in &pin[..m] {
         at[v] = 1;
-        i += 1;
     }
 }
 
@@ -119,26 +114,11 @@ fn mark_ends(
     ensures { at.new ≡ marked (flat (both_ends ea.now eb.now) (marks on.now e))
         at.old }
 {
-    let mut k = 0;
-    while k < e {
-        let j = k;
-        k += 1;
-        if 0 < on[j] {
-            let a = ea[j];
-            at[a] = 1;
-            let b = eb[j];
-            at[b] = 1;
+    for k in 0..e {
+        if 0 < on[k] {
+            at[ea[k]] = 1;
+            at[eb[k]] = 1;
         }
-    }
-}
-
-fn vertex_at(vertices: &[i32; VERTEX_NUMBERS], v: usize) -> Place
-    requires { v < point_bound }
-    ensures { result ≡ place_at vertices.now v }
-{
-    Place {
-        x: vertices[v * 2],
-        y: vertices[v * 2 + 1],
     }
 }
 
@@ -158,13 +138,10 @@ fn put_points(
     ensures ranking { (Ranking at.now n rank.new) × (Below point_bound rank.new) }
 {
     let mut c = 0;
-    let mut v = 0;
-    while v < n {
-        let w = v;
-        v += 1;
-        if 0 < at[w] {
-            tree::put_point(&mut *pts, c, vertex_at(vertices, w));
-            rank[w] = c;
+    for v in 0..n {
+        if 0 < at[v] {
+            tree::put_point(pts, c, plane::place_at(vertices, v));
+            rank[v] = c;
             c += 1;
         }
     }
@@ -195,12 +172,9 @@ fn put_keys(
         (get_or rank.now (get_or eb.now k 0) 0)) (marks on.now e)) keys.old }
 {
     let mut c = 0;
-    let mut k = 0;
-    while k < e {
-        let j = k;
-        k += 1;
-        if 0 < on[j] {
-            keys[c] = key_of(rank, ea[j], eb[j]);
+    for k in 0..e {
+        if 0 < on[k] {
+            keys[c] = key_of(rank, ea[k], eb[k]);
             c += 1;
         }
     }
@@ -238,10 +212,7 @@ pub fn start(
     mark_pins(pin, m, &mut at);
     mark_ends(ea, eb, e, &on, &mut at);
     let mut rank = [0usize; POINTS];
-    let points = put_points(vertices, n, &at, &mut rank, &mut *pts);
-    let edges = put_keys(ea, eb, e, &on, &rank, &mut *keys);
-    Size {
-        points: points,
-        edges: edges,
-    }
+    let points = put_points(vertices, n, &at, &mut rank, pts);
+    let edges = put_keys(ea, eb, e, &on, &rank, keys);
+    Size { points, edges }
 }

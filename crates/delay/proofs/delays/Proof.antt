@@ -9,12 +9,11 @@ use borrow.Author.Rules.{rules}
 use lib.Ieee.{Float}
 use Rattle.lists.specs.Any.{any}
 use Rattle.lent.specs.Over.{over, after}
-use Rattle.net.specs.Answer.{number}
+use Rattle.net.specs.Answer.{number, told_by}
 use Rattle.tree.specs.Table.{tree_bound}
-use Rattle.floats.specs.declared.Delay.{Delay}
+use Rattle.floats.specs.Mark.{Delay}
 use Rattle.floats.specs.Mark.{is_mark, finites, marks_from}
 use Rattle.elmore.proofs.MemoLaws.{memo-none}
-use Rattle.delay.specs.Answer.{told_delays}
 use Rattle.delay.specs.Table.{driver_in, table_from}
 use Rattle.delay.proofs.ToldLaws.{told-mark, told-given, table_is}
 use Rattle.delay.proofs.delays.Statement.{statement}
@@ -52,11 +51,11 @@ found : (m : tie.After-has_mark) → m.has_mark.result ≡ any is_mark (marks (s
 found m = let l = m.before.before in m.has_mark.ensures ∙ ap (λ (x : List Float). any is_mark (marks_by (start l) x)) (left l)
 
 returns : tie.Need-returns-then-has_mark
-unfolding told_delays number after
+unfolding told_by number after
 returns c = let m = c.before in (sym (told-mark _ (marks (start m.before.before)) (sym (found m) ∙ c.if-has_mark.true)), refl)
 
 returns-2 : tie.Need-returns
-unfolding told_delays after
+unfolding told_by after
 returns-2 c =
     let g = c in
     let n = g in

@@ -1,6 +1,6 @@
 -- The steps left below the point fall with each call. The delays of the children still to come, stored over the table as it is, make the
 -- table that the contract names, and the memo's entries are right.
-use Rattle.std.proofs.Common.{◌≡◌, ◌-◌, ◌≤◌}
+use Rattle.std.proofs.Common.{◌≡◌}
 use Rattle.elmore.specs.Elmore.{delays}
 use Rattle.elmore.specs.Table.{hung, apart_in, load_in, stored}
 use Rattle.elmore.specs.Memo.{Memo}
@@ -12,10 +12,6 @@ decreases-lay l = l.v.left
 
 abbrev pub invariant-loop-k : goal.invariant-loop-k
 invariant-loop-k l =
-    (l.k ≤ l.e)
-    × ((stored (delays (apart_in l.pts) (load_in l.loads) l.t l.p l.d (pending l.keys l.v.up l.p l.e (hung l.keys l.e l.left l.p) l.k)) l.table
+    (stored (delays (apart_in l.pts) (load_in l.loads) l.t l.p l.d (pending l.keys l.v.up l.p l.e (hung l.keys l.e l.left l.p) l.k)) l.table
     ≡ stored (delays (apart_in l.pts) (load_in l.loads) l.t l.p l.d (hung l.keys l.e l.v.left l.v.up l.p)) l.initial.table)
-    × Memo l.pts l.keys l.e l.loads l.t l.held l.whose)
-
-abbrev pub decreases-loop-k : goal.decreases-loop-k
-decreases-loop-k l = l.e - l.k
+    × Memo l.pts l.keys l.e l.loads l.t l.held l.whose

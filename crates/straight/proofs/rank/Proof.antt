@@ -1,11 +1,10 @@
 -- `straight::rank` meets its contract: where a place stands among points in order is its rank.
 -- Assumes nothing.
-use mathlib.Core.Path.{refl, ap, ◌∙◌}
+use mathlib.Core.Path.{ap, ◌∙◌}
 use mathlib.Core.List.{List}
 use Rattle.lists.specs.Sorted.{position}
 use Rattle.plane.specs.declared.Place.{Place}
 use Rattle.plane.specs.Place.{before}
-use Rattle.plane.specs.Flat.{place_from}
 use Rattle.sorted.proofs.NumberLaws.{rank-position}
 use Rattle.straight.proofs.RunLaws.{points-are}
 use Rattle.straight.proofs.rank.Statement.{statement}

@@ -1,10 +1,7 @@
 -- `turned::face_of` meets its contract, each answer by the law of its case.
 -- Assumes nothing.
-use mathlib.Core.Path.{◌≡◌, refl, sym, ap, ap₂, ◌∙◌}
-use mir.Syntax.{w32, w64}
-use mir.Val.{to_z, of_z}
+use mir.Syntax.{w32}
 use mir.ValLaws.{to_z-of_z}
-use Rattle.slide.specs.declared.Side.{Side}
 use Rattle.slide.specs.declared.Side.TheVariants.{Above, Below, Right, Left}
 use Rattle.slide.specs.Stop.{starts, finishes, near_side, far_side}
 use Rattle.plane.proofs.Fits.{MacroFits}

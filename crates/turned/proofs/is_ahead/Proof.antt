@@ -1,6 +1,6 @@
 -- `turned::is_ahead` meets its contract, each answer by the law of its case.
 -- Assumes nothing.
-use mathlib.Core.Path.{◌≡◌, refl, sym, ap, ◌∙◌}
+use mathlib.Core.Path.{refl}
 use Rattle.turned.specs.Turned.{ahead_of}
 use Rattle.turned.proofs.is_ahead.Statement.{statement}
 use Rattle.turned.proofs.is_ahead.Tie as tie

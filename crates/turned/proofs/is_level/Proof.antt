@@ -1,8 +1,6 @@
 -- `turned::is_level` meets its contract, each answer by the law of its case.
 -- Assumes nothing.
-use mathlib.Core.Path.{◌≡◌, refl, sym, ap, ap₂, ◌∙◌}
-use native.Mathlib.Omega.{arith}
-use Prim.Native.Nat.{◌+◌, ◌-◌, ◌^◌, ◌≤◌, ◌<◌, min, max}
+use mathlib.Core.Path.{ap, ap₂, ◌∙◌}
 use Rattle.turned.specs.Turned.{level_at, spot}
 use lib.Dec.{eqb}
 use Prim.Native.Nat.{ℕ}

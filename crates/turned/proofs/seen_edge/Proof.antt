@@ -1,6 +1,5 @@
 -- `turned::seen_edge` meets its contract, each answer by the law of its case.
 -- Assumes nothing.
-use mathlib.Core.Path.{◌≡◌, refl, sym, ap, ap₂, ◌∙◌}
 use Rattle.turned.specs.Turned.{view}
 use Rattle.turned.proofs.CodeLaws.{seen-is}
 use borrow.Author.Rules.{rules}

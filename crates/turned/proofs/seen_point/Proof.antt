@@ -1,6 +1,6 @@
 -- `turned::seen_point` meets its contract, each answer by the law of its case.
 -- Assumes nothing.
-use mathlib.Core.Path.{◌≡◌, refl, sym, ap, ap₂, ◌∙◌}
+use mathlib.Core.Path.{refl}
 use mathlib.Core.List.{[]}
 use Rattle.turned.specs.Turned.{view}
 use Rattle.turned.proofs.CodeLaws.{seen-is}

@@ -1,6 +1,6 @@
 -- `turned::spot_at` meets its contract, each answer by the law of its case.
 -- Assumes nothing.
-use mathlib.Core.Path.{◌≡◌, refl, sym, ap, ap₂, ◌∙◌}
+use mathlib.Core.Path.{ap, ◌∙◌}
 use Rattle.plane.specs.declared.Place.{Place}
 use Rattle.turned.specs.Turned.{spot}
 use borrow.Author.Rules.{rules}

@@ -29,15 +29,15 @@ returns-then-y-lt-VERTICES t c =
     let f = c.requires.nearing in
     let u = c.if-y-lt-VERTICES.true in
     let k = steps-more _ _ _ f.0 f.1 u in record {
-      result_after = graft-more _ _ _ _ f.0 f.1 u _ _ _ _ q.result_after c.vertex_at.ensures r.result_after;
+      result_after = graft-more _ _ _ _ f.0 f.1 u _ _ _ _ q.result_after c.place_at.ensures r.result_after;
       points_value = (
         (omega (arith, q.points_value.0.0, r.points_value.0.0, k), omega (arith, q.points_value.0.1, r.points_value.0.1, k)),
         r.points_value.1,
       );
     }
 
-pub returns : goal.returns
-returns t c =
+pub returns-else-y-lt-VERTICES : goal.returns-else-y-lt-VERTICES
+returns-else-y-lt-VERTICES t c =
     let n = c.if-y-lt-VERTICES.false in
     let k = steps-none c.args.far.now c.args.up.now c.args.u n in record {
       result_after = graft-none _ _ _ _ _ n;

@@ -8,7 +8,7 @@ use Rattle.lent.specs.Over.{after}
 use Rattle.net.specs.Net.{handed}
 use Rattle.net.specs.Pins.{pin_loads}
 use Rattle.net.specs.Tests.{no_load}
-use Rattle.floats.specs.declared.Delay.{Delay}
+use Rattle.floats.specs.Mark.{Delay}
 use Rattle.floats.specs.Mark.{finites}
 use Rattle.delay.specs.Answer.{unless_marked, told_delays}
 use Rattle.made.proofs.CountedLaws.{as-pins}

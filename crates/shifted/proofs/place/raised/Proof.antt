@@ -1,6 +1,6 @@
 -- `shifted::place::raised` meets its contract: the sum fits, as is asked.
 -- Assumes nothing.
-use mathlib.Core.Path.{◌≡◌, ap₂, ◌∙◌}
+use mathlib.Core.Path.{ap₂, ◌∙◌}
 use borrow.Author.Rules.{rules}
 use lib.IntN.{◌+ℤ◌}
 use mir.Syntax.{w32}

@@ -1,0 +1,7 @@
+-- What visits of the first arcs come to.
+use Rattle.std.proofs.Common.{◌<◌}
+use Rattle.sweeps.specs.Tables.{Passed}
+use Rattle.sweeps.proofs.pass_up.Given as goal
+
+abbrev pub invariant-loop-a : goal.invariant-loop-a
+invariant-loop-a l = Passed l.left l.cap (λ b. b < l.a) l.moved l.initial.row l.row
