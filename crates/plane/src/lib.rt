@@ -84,11 +84,18 @@ fn median(a: i32, b: i32, c: i32) -> i32
 }
 
 // The order of places: by x, then by y.
+// Kept: in three steps; the derived `<` says the same and takes three times as long where a place is put into a table.
 #[tactic(auto, unfolding(crate::specs::Place::before))]
 pub fn is_before(a: Place, b: Place) -> bool
     ensures { result ≡ before a b }
 {
-    a < b
+    if a.x < b.x {
+        true
+    } else if b.x < a.x {
+        false
+    } else {
+        a.y < b.y
+    }
 }
 
 #[tactic(auto, using(crate::proofs::MachineLaws::eq_is), unfolding(crate::specs::Place::same_place))]
